@@ -1,0 +1,14 @@
+pub mod Arcs
+pub mod RowFacts
+pub mod Bests
+pub mod Outputs
+pub mod Steps
+pub mod Slots
+pub mod ScoreLaws
+pub mod Checks
+pub mod Firsts
+pub mod Traces
+pub mod Totals
+pub mod BestGains
+pub mod Supplies
+pub mod FirstBests

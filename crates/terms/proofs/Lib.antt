@@ -1,0 +1,3 @@
+pub mod Ints
+pub mod Bounds
+pub mod Sums

@@ -1,0 +1,3 @@
+pub mod Declines
+pub mod Numbers
+pub mod Sums
