@@ -1,0 +1,2 @@
+pub mod ArcTables
+pub mod OutageLists
