@@ -91,7 +91,7 @@ module _ (p : UnitModel) (sp : SoundUnit p) (r : Prices) (T : ℕ) where
       (λ x h. record { to = h .0; under = h .1; via = h .2 })
       (λ x u. (u .to, u .under, u .via)))
 
-int-part : Part intScale gain-part (λ x. x)
+pub int-part : Part intScale gain-part (λ x. x)
 int-part = record { none = refl; sum = λ a b. refl; made = λ g q. refl }
 
 pub best-gain-law : Best-gain-law

@@ -12,3 +12,4 @@ pub mod Totals
 pub mod BestGains
 pub mod Supplies
 pub mod FirstBests
+pub mod GainBounds

@@ -29,7 +29,7 @@ pub record Upto {S : Type 0} (s : Scale S) (p : UnitModel) (r : Prices) (T t a i
 
 module _ {S : Type 0} {s : Scale S} (l : Lawful s) (p : UnitModel) (sp : SoundUnit p) (r : Prices) (pr : Priced r) where
   -- no way adds more than its periods' largest amounts
-  way-fits : (t a : ℕ) (way : List Entry) → AllowedFrom p t a way → s .fits (length way) (scoreFrom s p r t a way)
+  pub way-fits : (t a : ℕ) (way : List Entry) → AllowedFrom p t a way → s .fits (length way) (scoreFrom s p r t a way)
   way-fits t a [] h = l .fits-zero
   way-fits t a (e ∷ es) h =
       let q = e .output in
