@@ -1,9 +1,10 @@
 // The settlement program. For now it settles a built-in day.
 mod pays;
 mod sample;
+
+use fleet_kinds::ArcTableFleet;
 use pays::Pay;
 use pays::settle;
-use fleet_kinds::ArcTableFleet;
 use std::error::AnyError;
 use terms::Layer;
 
@@ -22,7 +23,13 @@ fn run(rt: &LibcRuntime) -> Result<(), AnyError> {
         Ok(row) => row,
         Err(_) => return Err("the sample's prices are declined".into()),
     };
-    match settle(&fleet, &row, &sample::FIRST_RUN, &sample::SECOND_RUN, &mut table) {
+    match settle(
+        &fleet,
+        &row,
+        &sample::FIRST_RUN,
+        &sample::SECOND_RUN,
+        &mut table,
+    ) {
         Ok(settled) => {
             print_pay(rt, 0, settled.first)?;
             print_pay(rt, 1, settled.second)?;
@@ -43,7 +50,10 @@ fn print_pay(rt: &LibcRuntime, unit: usize, due: Pay) -> Result<(), AnyError> {
     let best = due.best;
     let gain = due.gain;
     let pay = due.pay;
-    println!(rt, "unit {unit}: best gain {best}, its run gains {gain}, pay {pay}")?;
+    println!(
+        rt,
+        "unit {unit}: best gain {best}, its run gains {gain}, pay {pay}"
+    )?;
     Ok(())
 }
 

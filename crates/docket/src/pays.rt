@@ -10,7 +10,7 @@ use fleet::Fleet;
 use fleet::Gain;
 use fleet::PriceRow;
 use fleet::best_gain;
-use fleet::check;
+use fleet::check_schedule;
 use terms::Decline;
 
 // A unit's best gain, its run's gain, and the difference, which it is paid.
@@ -30,19 +30,39 @@ pub struct Settled {
 }
 
 // Checks a unit's run and searches its best gain. Declined as the two are, in this order.
-pub fn pay_of<F: Fleet>(fleet: &F, unit: usize, row: &PriceRow, schedule: &[Entry], table: &mut [Option<Gain>]) -> Result<Pay, Decline>
+pub fn pay_of<F: Fleet>(
+    fleet: &F,
+    unit: usize,
+    row: &PriceRow,
+    schedule: &[Entry],
+    table: &mut [Option<Gain>],
+) -> Result<Pay, Decline>
     ensures { λ r. ⌜ PayAnswer (Room (length (now (table .entry)))) (F·Fleet .meaning (now (fleet .entry)) .model unit) (now (row .entry) .periods) (pricesOf (now (row .entry))) unit (now (schedule .entry)) r ⌝ }
 {
-    let account = check(fleet, unit, row, schedule)?;
+    let account = check_schedule(fleet, unit, row, schedule)?;
     let best = best_gain(fleet, unit, row, table)?;
-    Ok(Pay { best, gain: account.gain, pay: best - account.gain })
+    Ok(Pay {
+        best,
+        gain: account.gain,
+        pay: best - account.gain,
+    })
 }
 
 // The pays of units 0 and 1 for their runs, and the uplift.
-pub fn settle<F: Fleet>(fleet: &F, row: &PriceRow, first: &[Entry], second: &[Entry], table: &mut [Option<Gain>]) -> Result<Settled, Decline>
+pub fn settle<F: Fleet>(
+    fleet: &F,
+    row: &PriceRow,
+    first: &[Entry],
+    second: &[Entry],
+    table: &mut [Option<Gain>],
+) -> Result<Settled, Decline>
     ensures { λ r. ⌜ SettleAnswer (Room (length (now (table .entry)))) (F·Fleet .meaning (now (fleet .entry))) (now (row .entry) .periods) (pricesOf (now (row .entry))) (now (first .entry)) (now (second .entry)) r ⌝ }
 {
     let first = pay_of(fleet, 0, row, first, table)?;
     let second = pay_of(fleet, 1, row, second, table)?;
-    Ok(Settled { first, second, uplift: first.pay + second.pay })
+    Ok(Settled {
+        first,
+        second,
+        uplift: first.pay + second.pay,
+    })
 }

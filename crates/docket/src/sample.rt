@@ -13,14 +13,57 @@ use terms::Cause;
 use terms::Decline;
 
 // State 0 is off, state 1 is on.
-pub const FIRST_RUN: [Entry; 1] = [Entry { state: 1, output: 8 }];
-pub const SECOND_RUN: [Entry; 1] = [Entry { state: 1, output: 4 }];
+pub const FIRST_RUN: [Entry; 1] = [Entry {
+    state: 1,
+    output: 8,
+}];
+
+pub const SECOND_RUN: [Entry; 1] = [Entry {
+    state: 1,
+    output: 4,
+}];
 
 const ROWS: [ArcRow; 4] = [
-    ArcRow { unit: 0, period: 0, from: 0, to: 0, lo: 0, hi: 0, base: 0, rate: 0 },
-    ArcRow { unit: 0, period: 0, from: 0, to: 1, lo: 1, hi: 10, base: 0, rate: 5 },
-    ArcRow { unit: 1, period: 0, from: 0, to: 0, lo: 0, hi: 0, base: 0, rate: 0 },
-    ArcRow { unit: 1, period: 0, from: 0, to: 1, lo: 4, hi: 4, base: 16, rate: 2 },
+    ArcRow {
+        unit: 0,
+        period: 0,
+        from: 0,
+        to: 0,
+        lo: 0,
+        hi: 0,
+        base: 0,
+        rate: 0,
+    },
+    ArcRow {
+        unit: 0,
+        period: 0,
+        from: 0,
+        to: 1,
+        lo: 1,
+        hi: 10,
+        base: 0,
+        rate: 5,
+    },
+    ArcRow {
+        unit: 1,
+        period: 0,
+        from: 0,
+        to: 0,
+        lo: 0,
+        hi: 0,
+        base: 0,
+        rate: 0,
+    },
+    ArcRow {
+        unit: 1,
+        period: 0,
+        from: 0,
+        to: 1,
+        lo: 4,
+        hi: 4,
+        base: 16,
+        rate: 2,
+    },
 ];
 
 // Unit 0 is off, or on with 1 to 10 lots at 5 cents; unit 1 is off, or on with 4 lots for 16 cents and 2 a lot.
@@ -33,6 +76,9 @@ pub fn fleet(heap: Global) -> Result<ArcTable, AllocError> {
 pub fn prices() -> Result<PriceRow, Decline> {
     match Periods::new(1) {
         Some(periods) => PriceRow::new(periods, 1, &[6]),
-        None => Err(Decline { cause: Cause::PeriodsOrWeight, place: 0 }),
+        None => Err(Decline {
+            cause: Cause::PeriodsOrWeight,
+            place: 0,
+        }),
     }
 }

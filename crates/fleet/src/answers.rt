@@ -43,7 +43,7 @@ fn no_schedule(unit: usize) -> Decline
     }
 }
 
-// The greatest gain of all allowed schedules. Declined with 30 where the table is too short, then 32 where no schedule
+// The most that any allowed schedule gains. Declined with 30 where the table is too short, then 32 where no schedule
 // is allowed.
 pub fn best_gain<F: Fleet>(
     fleet: &F,
@@ -64,7 +64,7 @@ pub fn best_gain<F: Fleet>(
     }
 }
 
-// The best gain, with the least and the greatest lots among the schedules of that gain. Declined as the best gain is,
+// The best gain, with the fewest and the most lots among the schedules of that gain. Declined as the best gain is,
 // with 30 where either table is too short.
 pub fn supply<F: Fleet>(
     fleet: &F,

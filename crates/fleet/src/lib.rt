@@ -19,7 +19,7 @@ pub use records::Range;
 pub use rows::NeedRow;
 pub use rows::PriceRow;
 pub use schedules::Account;
-pub use schedules::check;
+pub use schedules::check_schedule;
 pub use scores::FewerLots;
 pub use scores::Gain;
 pub use scores::MoreLots;

@@ -44,7 +44,7 @@ fn not_allowed(place: usize) -> Decline
 
 // The cost and gain of an allowed schedule. Declined with 27 at the first period without an arc that contains its
 // output, or at the end where only that fails.
-pub fn check<F: Fleet>(
+pub fn check_schedule<F: Fleet>(
     fleet: &F,
     unit: usize,
     row: &PriceRow,

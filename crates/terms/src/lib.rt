@@ -3,4 +3,5 @@ mod decline;
 
 pub use decline::Cause;
 pub use decline::Decline;
+pub use decline::DeclineDebug;
 pub use decline::Layer;

@@ -21,8 +21,8 @@ use Rattle.fleet.specs.Rows.{pricesOf}
 use Rattle.fleet.proofs.Arcs.{holds-none, holds-near, arc-within}
 use Rattle.fleet.proofs.RowFacts.{row-priced, gain-entry}
 use Rattle.fleet.proofs.Checks.{going-next, going-bad, going-ends, going-stuck, blank}
-use Rattle.fleet.proofs.schedules.check.Needs as need
-use Rattle.fleet.proofs.schedules.check.Needs.{After-cost-paid}
+use Rattle.fleet.proofs.schedules.check_schedule.Needs as need
+use Rattle.fleet.proofs.schedules.check_schedule.Needs.{After-cost-paid}
 
 pub returns-in-rest : need.returns-in-rest
 returns-in-rest g c =
@@ -37,7 +37,7 @@ returns-then-not-contains g c =
     going-bad _ _ _ _ _ _ _ _ (c .loop-step-test .taken) (λ h. both-ways _ told (subst (λ (o : Option Range). holds o (e .output) ≡ true) (sym (c .in-Some .ensures tt)) h)) (c .loop-step .inv) _ (c .not-allowed-then-not-contains .ensures)
 
 -- the entry goes on, what it costs, and what bounds there are
-record Fits (g : Rattle.fleet.proofs.schedules.check.Given.Over) (c : need.After-cost-paid g) : Type 0 where
+record Fits (g : Rattle.fleet.proofs.schedules.check_schedule.Given.Over) (c : need.After-cost-paid g) : Type 0 where
   goes : Goes (g .F·Fleet .meaning (c .args .fleet .now) .model (c .args .unit)) (c .loop-step .period) (c .loop-step .state) (getD (c .args .schedule .now) (c .loop-step .step-index) blank)
   within : c .loop-step .period < 48
   near : Near 500 (getD (c .args .schedule .now) (c .loop-step .step-index) blank .output)
@@ -45,7 +45,7 @@ record Fits (g : Rattle.fleet.proofs.schedules.check.Given.Over) (c : need.Aft
   narrow : SFits w32 (c .cost-paid .result)
   output : SFits w32 (getD (c .args .schedule .now) (c .loop-step .step-index) blank .output)
 
-fits-here : (g : Rattle.fleet.proofs.schedules.check.Given.Over) (c : need.After-cost-paid g) → Fits g c
+fits-here : (g : Rattle.fleet.proofs.schedules.check_schedule.Given.Over) (c : need.After-cost-paid g) → Fits g c
 fits-here g c =
     let e = getD (c .args .schedule .now) (c .loop-step .step-index) blank in
     let p = g .F·Fleet .meaning (c .args .fleet .now) .model (c .args .unit) in
