@@ -1,5 +1,4 @@
-// Tests of the fleet layer: worked units, edges, and all schedules of small units by brute force.
-mod brute;
+// Tests of the fleet layer: worked units, edges.
 mod days;
 
 use terms::Decline;
