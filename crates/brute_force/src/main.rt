@@ -91,28 +91,54 @@ fn same(a: &Entry, b: &Entry) -> bool {
     a.state == b.state && a.output == b.output
 }
 
-// The searches' answers for unit 0, held against all schedules tried one by one.
-fn agrees<F: Fleet>(heap: Global, fleet: &F, row: &PriceRow) -> Result<bool, AllocError> {
+// The searches' answers for unit 0, or nothing where they are declined.
+fn search_all<F: Fleet>(
+    heap: Global,
+    fleet: &F,
+    row: &PriceRow,
+) -> Result<Option<Found>, AllocError> {
     let mut table = vec![in heap; None; 3920]?;
     let mut fewer = vec![in heap; None; 3920]?;
     let mut more = vec![in heap; None; 3920]?;
-    let mut out = [Entry {
+    let mut first = [Entry {
         state: 0,
         output: 0,
     }; 3];
+    let Ok((gain, least, most)) = supply(fleet, 0, row, &mut fewer, &mut more) else {
+        return Ok(None);
+    };
+    if first_best(fleet, 0, row, &mut table, &mut first).is_err() {
+        return Ok(None);
+    }
+    Ok(Some(Found {
+        gain,
+        least,
+        most,
+        first,
+    }))
+}
+
+fn same_answer(a: &Found, b: &Found) -> bool {
+    let [p, q, r] = a.first;
+    let [x, y, z] = b.first;
+    let numbers = a.gain == b.gain && a.least == b.least && a.most == b.most;
+    numbers && same(&p, &x) && same(&q, &y) && same(&r, &z)
+}
+
+// The searches' answers, held against all schedules tried one by one.
+fn agrees<F: Fleet>(heap: Global, fleet: &F, row: &PriceRow) -> Result<bool, AllocError> {
+    let mut table = vec![in heap; None; 3920]?;
     let best = best_gain(fleet, 0, row, &mut table);
-    let supplied = supply(fleet, 0, row, &mut fewer, &mut more);
-    let shown = first_best(fleet, 0, row, &mut table, &mut out);
-    let Some(found) = try_all(fleet, row) else {
-        return Ok(best.is_err() && supplied.is_err() && shown.is_err());
-    };
-    let (Ok(best), Ok((gain, least, most)), Ok(())) = (best, supplied, shown) else {
-        return Ok(false);
-    };
-    let numbers = best == found.gain && gain == best && least == found.least && most == found.most;
-    let [a, b, c] = out;
-    let [x, y, z] = found.first;
-    Ok(numbers && same(&a, &x) && same(&b, &y) && same(&c, &z))
+    Ok(
+        match (search_all(heap, fleet, row)?, try_all(fleet, row)) {
+            (Some(a), Some(b)) => match best {
+                Ok(best) => best == b.gain && same_answer(&a, &b),
+                Err(_) => false,
+            },
+            (None, None) => best.is_err(),
+            _ => false,
+        },
+    )
 }
 
 // A number below n.

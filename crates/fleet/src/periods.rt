@@ -23,7 +23,7 @@ impl Periods {
         Some(Periods { count })
     }
 
-    pub fn count(self) -> usize
+    pub(crate) fn count(self) -> usize
         ensures { λ r. ⌜ r ≡ self .count ⌝ }
     {
         self.count

@@ -20,7 +20,7 @@ use Rattle.fleet.specs.declared.records.Range.{Range}
 use Rattle.fleet.specs.Units.{UnitModel, SoundUnit, Sound, Lacking, SoundArc, among, holds}
 use Rattle.fleet.proofs.Arcs.{among-low, among-high}
 use Rattle.fleet_kinds.specs.declared.rows.ArcRow.{ArcRow}
-use Rattle.fleet_kinds.specs.ArcTables.{existing, ranged, bounded, heeded, about, isFor, firstOf, rowFor, rangeOf, costOn, tableUnit, tableMeaning}
+use Rattle.fleet_kinds.specs.ArcTables.{existing, ranged, bounded, heeded, about, isFor, firstOf, rowFor, rowRange, rangeOf, costOn, tableUnit, tableMeaning}
 
 -- a heeded row for this unit, period and these states
 pub record HeededFor (n u t a b : ℕ) (r : ArcRow) : Type 0 where
@@ -95,7 +95,7 @@ module _ (n u t a b : ℕ) where
   cost-near None q h = near-zero 500000000
   cost-near (Some r) q h =
       let k = h r refl in
-      let range : Range = record { lo = r .lo; hi = r .hi } in
+      let range = rowRange r in
       ⊎-elim
       (λ y. subst (Near 500000000) (sym (cond-true (among range q) (r .base +ℤ (r .rate *ℤ q)) (pos 0) y))
       (near-add 250000000 250000000 (r .base) (r .rate *ℤ q) (k .base) (near-mul 500000 500 (r .rate) q (k .rate) (near-between 500 (r .lo) (r .hi) q (k .lo) (k .hi) (among-low range q y) (among-high range q y)))))
@@ -104,7 +104,7 @@ module _ (n u t a b : ℕ) where
 
   cost-none : (o : Option ArcRow) (q : ℤ) → holds (rangeOf o) q ≡ false → costOn o q ≡ pos 0
   cost-none None q h = refl
-  cost-none (Some r) q h = cond-false (holds (rangeOf (Some r)) q) (r .base +ℤ (r .rate *ℤ q)) (pos 0) h
+  cost-none (Some r) q h = cond-false (among (rowRange r) q) (r .base +ℤ (r .rate *ℤ q)) (pos 0) h
 
 states-some : (b : Bool) → 1 ≤ cond b 80 1
 states-some true = omega arith

@@ -10,7 +10,7 @@ use Rattle.std.specs.declared.option.Option.{Option}
 use Rattle.std.specs.declared.option.Option.the-variants.{Some, None}
 use Rattle.terms.specs.Numbers.{near}
 use Rattle.fleet.specs.declared.records.Range.{Range}
-use Rattle.fleet.specs.Units.{UnitModel, Meaning, holds}
+use Rattle.fleet.specs.Units.{UnitModel, Meaning, among}
 use Rattle.fleet_kinds.specs.declared.rows.ArcRow.{ArcRow}
 
 -- the row's unit is one of n, and its period and states exist
@@ -43,14 +43,17 @@ firstOf f (x ∷ xs) = cond (f x) (Some x) (firstOf f xs)
 abbrev pub rowFor : ℕ → List ArcRow → ℕ → ℕ → ℕ → ℕ → Option ArcRow
 rowFor n rows u t a b = firstOf (isFor n u t a b) rows
 
+abbrev pub rowRange : ArcRow → Range
+rowRange r = record { lo = r .lo; hi = r .hi }
+
 abbrev pub rangeOf : Option ArcRow → Option Range
 rangeOf None = None
-rangeOf (Some r) = Some (record { lo = r .lo; hi = r .hi })
+rangeOf (Some r) = Some (rowRange r)
 
 -- base + rate × output, 0 for an output that is not the arc's
 abbrev pub costOn : Option ArcRow → ℤ → ℤ
 costOn None q = pos 0
-costOn (Some r) q = cond (holds (rangeOf (Some r)) q) (r .base +ℤ (r .rate *ℤ q)) (pos 0)
+costOn (Some r) q = cond (among (rowRange r) q) (r .base +ℤ (r .rate *ℤ q)) (pos 0)
 
 abbrev pub tableUnit : ℕ → List ArcRow → ℕ → UnitModel
 tableUnit n rows u = record {

@@ -50,10 +50,7 @@ pub impl Fleet for ArcTable as ArcTableFleet {
 
     fn arc(&self, unit: usize, period: usize, from: usize, to: usize) -> Option<Range> {
         match self.row(unit, period, from, to) {
-            Some(row) => Some(Range {
-                lo: row.lo,
-                hi: row.hi,
-            }),
+            Some(row) => Some(row.range()),
             None => None,
         }
     }
@@ -62,11 +59,7 @@ pub impl Fleet for ArcTable as ArcTableFleet {
         let Some(row) = self.row(unit, period, from, to) else {
             return 0;
         };
-        let range = Range {
-            lo: row.lo,
-            hi: row.hi,
-        };
-        if range.contains(output) {
+        if row.range().contains(output) {
             cost_of(row.base, row.rate, output)
         } else {
             0

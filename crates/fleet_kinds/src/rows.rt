@@ -3,7 +3,8 @@ ghost use mathlib.Core.Path.{_≡_};
 ghost use Prim.Native.Nat.{ℕ, _<_, _^_};
 ghost use lib.IntN.{ℤ, _+ℤ_, _*ℤ_};
 ghost use Rattle.terms.specs.Numbers.{Near, near};
-ghost use Rattle.fleet_kinds.specs.ArcTables.{existing, ranged, bounded, heeded, about, isFor, rowFor};
+ghost use Rattle.fleet_kinds.specs.ArcTables.{existing, ranged, bounded, heeded, about, isFor, rowFor, rowRange};
+use fleet::Range;
 
 // The unit may go from one state into another in the period, with outputs from lo to hi, for base + rate × output cents.
 #[derive(Clone, Copy)]
@@ -27,6 +28,15 @@ fn is_near(limit: u32, number: i32) -> bool
 }
 
 impl ArcRow {
+    pub(crate) fn range(&self) -> Range
+        ensures { λ r. ⌜ r ≡ rowRange (now (self .entry)) ⌝ }
+    {
+        Range {
+            lo: self.lo,
+            hi: self.hi,
+        }
+    }
+
     fn does_exist(&self, units: usize) -> bool
         ensures { λ r. ⌜ r ≡ existing units (now (self .entry)) ⌝ }
     {
