@@ -1,11 +1,9 @@
 // Small drawn fleets, with every schedule tried one by one and held against the searches' answers.
 use fleet::Entry;
-use fleet::FewerLots;
 use fleet::Fleet;
-use fleet::Gain;
-use fleet::MoreLots;
 use fleet::Periods;
 use fleet::PriceRow;
+use fleet::SLOTS;
 use fleet::best_gain;
 use fleet::check_schedule;
 use fleet::first_best;
@@ -97,9 +95,9 @@ fn search_all<F: Fleet>(
     fleet: &F,
     row: &PriceRow,
 ) -> Result<Option<Found>, AllocError> {
-    let mut table = vec![in heap; None; 3920]?;
-    let mut fewer = vec![in heap; None; 3920]?;
-    let mut more = vec![in heap; None; 3920]?;
+    let mut table = vec![in heap; None; SLOTS]?;
+    let mut fewer = vec![in heap; None; SLOTS]?;
+    let mut more = vec![in heap; None; SLOTS]?;
     let mut first = [Entry {
         state: 0,
         output: 0,
@@ -127,7 +125,7 @@ fn same_answer(a: &Found, b: &Found) -> bool {
 
 // The searches' answers, held against all schedules tried one by one.
 fn agrees<F: Fleet>(heap: Global, fleet: &F, row: &PriceRow) -> Result<bool, AllocError> {
-    let mut table = vec![in heap; None; 3920]?;
+    let mut table = vec![in heap; None; SLOTS]?;
     let best = best_gain(fleet, 0, row, &mut table);
     Ok(
         match (search_all(heap, fleet, row)?, try_all(fleet, row)) {
@@ -219,7 +217,7 @@ fn try_fleets(heap: Global, seed: &mut u32, fleets: u32) -> Result<(u32, u32), A
 }
 
 fn main(rt: LibcRuntime) -> Result<(), AnyError> {
-    let mut seed = 2026;
+    let mut seed = 7;
     let (agreed, tried) = try_fleets(rt.alloc(), &mut seed, 100)?;
     println!(rt, "{agreed} of {tried} fleets agree")?;
     Ok(())

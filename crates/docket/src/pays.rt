@@ -1,9 +1,7 @@
 // What each unit is due, and the uplift.
-ghost use mathlib.Core.Path.{_≡_};
 ghost use lib.ListN.{length};
-ghost use Rattle.fleet.specs.Units.{Meaning};
 ghost use Rattle.fleet.specs.Rows.{pricesOf};
-ghost use Rattle.fleet.specs.Answers.{Room};
+ghost use Rattle.fleet.specs.Answers.{Room, Free};
 ghost use Rattle.docket.specs.Pays.{PayAnswer, SettleAnswer};
 use fleet::Entry;
 use fleet::Fleet;
@@ -11,6 +9,7 @@ use fleet::Gain;
 use fleet::PriceRow;
 use fleet::best_gain;
 use fleet::check_schedule;
+use terms::Cause;
 use terms::Decline;
 
 // A unit's best gain, its run's gain, and the difference, which it is paid.
@@ -29,7 +28,8 @@ pub struct Settled {
     pub uplift: i64,
 }
 
-// Checks a unit's run and searches its best gain. Declined as the two are, in this order.
+// Checks a unit's run and searches its best gain. Declined with 26 where the run is not as long as the day, then as the
+// two are, in this order.
 pub fn pay_of<F: Fleet>(
     fleet: &F,
     unit: usize,
@@ -37,8 +37,15 @@ pub fn pay_of<F: Fleet>(
     schedule: &[Entry],
     table: &mut [Option<Gain>],
 ) -> Result<Pay, Decline>
-    ensures { λ r. ⌜ PayAnswer (Room (length (now (table .entry)))) (F·Fleet .meaning (now (fleet .entry)) .model unit) (now (row .entry) .periods) (pricesOf (now (row .entry))) unit (now (schedule .entry)) r ⌝ }
+    ensures pay { λ r. ⌜ PayAnswer (Room (length (now (table .entry)))) (F·Fleet .meaning (now (fleet .entry)) .model unit) (now (row .entry) .periods) (pricesOf (now (row .entry))) unit (now (schedule .entry)) r ⌝ }
+    ensures table { λ _. ⌜ Free (Room (length (now (table .entry)))) (now (table .entry)) (now (table .exit)) ⌝ }
 {
+    if schedule.len() != row.periods() {
+        return Err(Decline {
+            cause: Cause::ScheduleLength,
+            place: unit,
+        });
+    }
     let account = check_schedule(fleet, unit, row, schedule)?;
     let best = best_gain(fleet, unit, row, table)?;
     Ok(Pay {
@@ -56,7 +63,8 @@ pub fn settle<F: Fleet>(
     second: &[Entry],
     table: &mut [Option<Gain>],
 ) -> Result<Settled, Decline>
-    ensures { λ r. ⌜ SettleAnswer (Room (length (now (table .entry)))) (F·Fleet .meaning (now (fleet .entry))) (now (row .entry) .periods) (pricesOf (now (row .entry))) (now (first .entry)) (now (second .entry)) r ⌝ }
+    ensures settled { λ r. ⌜ SettleAnswer (Room (length (now (table .entry)))) (F·Fleet .meaning (now (fleet .entry))) (now (row .entry) .periods) (pricesOf (now (row .entry))) (now (first .entry)) (now (second .entry)) r ⌝ }
+    ensures table { λ _. ⌜ Free (Room (length (now (table .entry)))) (now (table .entry)) (now (table .exit)) ⌝ }
 {
     let first = pay_of(fleet, 0, row, first, table)?;
     let second = pay_of(fleet, 1, row, second, table)?;

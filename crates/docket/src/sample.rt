@@ -1,7 +1,4 @@
 // The built-in day: one period, two units, a price of 6 cents a lot.
-ghost use mathlib.Core.Path.{_≡_};
-ghost use Rattle.std.specs.Of.Vec.{vec-items};
-ghost use Rattle.std.specs.Vec.{made};
 use fleet::Entry;
 use fleet::Periods;
 use fleet::PriceRow;
@@ -9,8 +6,6 @@ use fleet_kinds::ArcRow;
 use fleet_kinds::ArcTable;
 use std::alloc::AllocError;
 use std::alloc::Global;
-use terms::Cause;
-use terms::Decline;
 
 // State 0 is off, state 1 is on.
 pub const FIRST_RUN: [Entry; 1] = [Entry {
@@ -73,12 +68,10 @@ pub fn fleet(heap: Global) -> Result<ArcTable, AllocError> {
 }
 
 // 6 cents a lot.
-pub fn prices() -> Result<PriceRow, Decline> {
-    match Periods::new(1) {
-        Some(periods) => PriceRow::new(periods, 1, &[6]),
-        None => Err(Decline {
-            cause: Cause::PeriodsOrWeight,
-            place: 0,
-        }),
+pub fn prices() -> Option<PriceRow> {
+    let periods = Periods::new(1)?;
+    match PriceRow::new(periods, 1, &[6]) {
+        Ok(row) => Some(row),
+        Err(_) => None,
     }
 }

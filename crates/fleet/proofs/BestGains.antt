@@ -1,13 +1,11 @@
 -- The best gain as a function is the best gain as a relation, at every row. Assumes nothing.
-use mathlib.Core.Path.{_≡_, refl, sym, ap, subst, _∙_}
+use mathlib.Core.Path.{_≡_, refl, sym, subst}
 use mathlib.Core.Logic.{_⊎_, inl, inr, ⊎-elim}
-use mathlib.Core.Bool.{Bool, true, false, cond}
-use mathlib.Core.List.{List, [], _∷_}
-use Prim.Native.Nat.{ℕ, zero, suc, _+_, _-_, _<_, _≤_}
+use mathlib.Core.Bool.{Bool, true, false}
+use Prim.Native.Nat.{ℕ, zero, suc, _+_, _-_, _<_}
 use native.Mathlib.Omega.{arith}
-use lib.IntN.{ℤ, pos, negsuc, _+ℤ_, _-ℤ_}
-use lib.Signed.{_≤ℤ_, leZ, ltZ}
-use Rattle.std.specs.Numbers.{maxZ}
+use lib.IntN.{ℤ, pos, negsuc, _+ℤ_}
+use lib.Signed.{leZ, ltZ}
 use Rattle.std.specs.declared.option.Option.{Option}
 use Rattle.std.specs.declared.option.Option.the-variants.{Some, None}
 use Rattle.std.proofs.shelf.Signed.{ints}
@@ -15,13 +13,12 @@ use Rattle.std.proofs.shelf.Tests.{cases-bool, cases-lt, cond-true, cond-false,
 use Rattle.terms.specs.Numbers.{Near}
 use Rattle.terms.proofs.Ints.{test-le}
 use Rattle.fleet.specs.declared.scores.Gain.{Gain}
-use Rattle.fleet.specs.declared.records.Range.{Range}
 use Rattle.fleet.specs.Units.{UnitModel, SoundUnit, holds}
 use Rattle.fleet.specs.Schedules.{Prices}
 use Rattle.fleet.specs.Gains.{IsBest, BestGain, Best-gain-law, greater, greatest, entryGain, onward, outputAt, bestFrom, bestGain}
-use Rattle.fleet.specs.Scores.{Scale, gainScale}
+use Rattle.fleet.specs.Scores.{gainScale}
 use Rattle.fleet.specs.Table.{Best, ToGo, Through, Via}
-use Rattle.fleet.proofs.Arcs.{holds-near, holds-none}
+use Rattle.fleet.proofs.Arcs.{holds-near}
 use Rattle.fleet.proofs.Bests.{best-like}
 use Rattle.fleet.proofs.ScoreLaws.{intScale, int-lawful}
 use Rattle.fleet.proofs.Steps.{Upto, upto-all, end-yes, end-no}

@@ -2,12 +2,12 @@
 use mathlib.Core.Path.{_≡_, refl, sym, ap, subst, _∙_}
 use mathlib.Core.Logic.{_⊎_, inl, inr, ⊎-elim}
 use mathlib.Core.List.{List, [], _∷_}
-use Prim.Native.Nat.{ℕ, suc, _+_, _<_}
+use Prim.Native.Nat.{ℕ, _<_}
 use native.Mathlib.Omega.{arith}
 use lib.IntN.{ℤ}
 use lib.ListN.{length}
-use lib.Signed.{_≤ℤ_, _<ℤ_}
-use Rattle.std.specs.declared.option.Option.the-variants.{Some, None}
+use lib.Signed.{_<ℤ_}
+use Rattle.std.specs.declared.option.Option.the-variants.{Some}
 use Rattle.std.proofs.shelf.Signed.{ints, by-ltZ}
 use Rattle.std.proofs.shelf.Tests.{cases-order}
 use Rattle.fleet.specs.declared.records.Entry.{Entry}
@@ -16,7 +16,7 @@ use Rattle.fleet.specs.Units.{UnitModel}
 use Rattle.fleet.specs.Schedules.{Prices, Precedes}
 use Rattle.fleet.specs.Gains.{Gains, First, First-law}
 use Rattle.fleet.specs.Scores.{gainScale}
-use Rattle.fleet.specs.Table.{Best, ToGo, FirstWay, scoreFrom}
+use Rattle.fleet.specs.Table.{Best, ToGo, FirstWay}
 use Rattle.fleet.proofs.BestGains.{best-gain-is, gain-is}
 use Rattle.fleet.proofs.Totals.{score-gain, best-unique}
 use Rattle.fleet.proofs.Traces.{entry-same}

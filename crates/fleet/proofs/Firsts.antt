@@ -1,24 +1,22 @@
 -- The first entry in reading order that attains the best. Assumes nothing.
-use mathlib.Core.Path.{_≡_, refl, sym, ap, subst, _∙_}
-use mathlib.Core.Logic.{_⊎_, inl, inr, ⊎-elim}
-use mathlib.Core.Bool.{Bool, true, false}
-use mathlib.Core.List.{List, [], _∷_}
-use Prim.Native.Nat.{ℕ, _+_, _<_, _≤_}
+use mathlib.Core.Path.{_≡_, refl, sym, subst}
+use mathlib.Core.Logic.{_⊎_, ⊎-elim}
+use mathlib.Core.Bool.{true, false}
+use Prim.Native.Nat.{ℕ, _+_, _<_}
 use native.Mathlib.Omega.{arith}
 use lib.IntN.{ℤ, pos, _+ℤ_}
-use lib.Signed.{_≤ℤ_, _<ℤ_}
+use lib.Signed.{_<ℤ_}
 use Rattle.std.specs.declared.option.Option.{Option}
 use Rattle.std.specs.declared.option.Option.the-variants.{Some, None}
 use Rattle.std.proofs.shelf.Signed.{ints, by-ltZ}
 use Rattle.std.proofs.shelf.Tests.{cases-lt, both-ways}
 use Rattle.fleet.specs.declared.records.Range.{Range}
-use Rattle.fleet.specs.declared.records.Entry.{Entry}
 use Rattle.fleet.specs.Scores.{Scale, Lawful}
 use Rattle.fleet.specs.Units.{UnitModel, SoundUnit, holds}
 use Rattle.fleet.specs.Schedules.{Prices}
 use Rattle.fleet.specs.Table.{Best, ToGo, Through, Step, worth}
 use Rattle.fleet.proofs.Arcs.{holds-none, among-low, among-high}
-use Rattle.fleet.proofs.Steps.{togo-up, through-togo, Upto}
+use Rattle.fleet.proofs.Steps.{togo-up, through-togo}
 
 -- no state below i attains x
 pub record NoneBelow {S : Type 0} (s : Scale S) (p : UnitModel) (r : Prices) (T t a : ℕ) (x : S) (i : ℕ) : Type 0 where

@@ -1,5 +1,6 @@
 pub mod Arcs
 pub mod RowFacts
+pub mod RowLaws
 pub mod Bests
 pub mod Outputs
 pub mod Steps

@@ -1,6 +1,6 @@
 -- What a checked row keeps, and what an entry gains at it. Assumes nothing.
 use mathlib.Core.Path.{_≡_, refl, sym, ap, subst, _∙_}
-use mathlib.Core.Logic.{_⊎_, inl, inr, ⊎-elim}
+use mathlib.Core.Logic.{_⊎_, ⊎-elim}
 use mathlib.Core.Bool.{Bool, true, false, cond}
 use mathlib.Core.List.{List, [], _∷_}
 use Prim.Native.Nat.{ℕ, zero, suc, _+_, _<_, _≤_}
@@ -13,7 +13,7 @@ use Rattle.std.proofs.shelf.Signed.{ints}
 use Rattle.std.proofs.shelf.Tests.{cases-lt}
 use Rattle.std.proofs.shelf.Ways.{tells}
 use Rattle.std.specs.declared.option.Option.the-variants.{Some, None}
-use Rattle.std.specs.declared.result.Result.the-variants.{Ok, Err}
+use Rattle.std.specs.declared.result.Result.the-variants.{Ok}
 use Rattle.std.specs.shelf.Lists.{leading}
 use Rattle.terms.specs.Numbers.{Near, near}
 use Rattle.terms.proofs.Ints.{mul-addℤ}
@@ -22,7 +22,7 @@ use Rattle.fleet.specs.declared.records.Entry.{Entry}
 use Rattle.fleet.specs.declared.rows.PriceRow.{PriceRow}
 use Rattle.fleet.specs.Units.{UnitModel}
 use Rattle.fleet.specs.Schedules.{Prices, numeratorAt, gainFrom, costFrom, revenueFrom}
-use Rattle.fleet.specs.Rows.{pricesOf, rowFault, Made, Fault}
+use Rattle.fleet.specs.Rows.{pricesOf, rowFault, Made}
 use Rattle.fleet.specs.Gains.{entryGain}
 
 -- the bounds of a checked price row

@@ -1,17 +1,14 @@
 -- The laws of the three scores. Assumes nothing.
-use mathlib.Core.Path.{_≡_, refl, ap, sym, _∙_}
-use mathlib.Core.Bool.{Bool, true, false, cond}
+use mathlib.Core.Path.{_≡_, ap, sym}
+use mathlib.Core.Bool.{true, false}
 use Prim.Native.Nat.{ℕ, _+_, _*_, _≤_}
 use native.Mathlib.Omega.{arith}
 use native.Mathlib.Nat.{add-mul}
 use lib.IntN.{ℤ, pos, negℤ, _+ℤ_, +ℤ-assoc, +ℤ-idl, +ℤ-idr}
-use lib.Signed.{leZ, ltZ, _≤ℤ_}
+use lib.Signed.{leZ, _≤ℤ_}
 use Rattle.std.proofs.shelf.Signed.{ints}
-use Rattle.fleet.specs.declared.scores.Gain.{Gain}
-use Rattle.fleet.specs.declared.scores.MoreLots.{MoreLots}
-use Rattle.fleet.specs.declared.scores.FewerLots.{FewerLots}
 use Rattle.terms.specs.Numbers.{Near}
-use Rattle.fleet.specs.Scores.{Scale, Lawful, Amount, gainScale, moreScale, fewerScale, lexical}
+use Rattle.fleet.specs.Scores.{Scale, Lawful, gainScale, moreScale, fewerScale, lexical}
 
 none-near : (k : ℕ) → Near (0 * k) (pos 0)
 none-near k = record { low = omega (arith, ints); high = omega (arith, ints) }
@@ -21,6 +18,9 @@ one-near k z h = record { low = omega (arith, ints); high = omega (arith, ints) 
 
 largest-near : (k : ℕ) → Near k (pos k)
 largest-near k = record { low = omega (arith, ints); high = omega (arith, ints) }
+
+lowest-near : (k : ℕ) → Near k (negℤ (pos k))
+lowest-near k = record { low = omega (arith, ints); high = omega (arith, ints) }
 
 sum-near : (k m n : ℕ) (y z : ℤ) → Near (m * k) y → Near (n * k) z → Near ((m + n) * k) (y +ℤ z)
 sum-near k m n y z h i = let e = add-mul m n k in record { low = omega (arith, ints); high = omega (arith, ints) }
@@ -46,6 +46,9 @@ le-less-left c a b h = grind (arith, ints)
 le-less-right : (c a b : ℤ) → leZ b a ≡ false → leZ (b +ℤ c) (a +ℤ c) ≡ false
 le-less-right c a b h = grind (arith, ints)
 
+gain-tops : (g : ℤ) → Near (1 * 1000000000000) g → leZ g (pos 1000000000000) ≡ true
+gain-tops g h = let high = h .high in grind (arith, ints)
+
 pub gain-lawful : Lawful gainScale
 gain-lawful = record {
   total = λ a b. le-total (a .gain) (b .gain);
@@ -59,6 +62,7 @@ gain-lawful = record {
   less-left = λ c a b. le-less-left (c .gain) (a .gain) (b .gain);
   less-right = λ c a b. le-less-right (c .gain) (a .gain) (b .gain);
   fits-largest = one-near 1000000000000 (pos 1000000000000) (largest-near 1000000000000);
+  tops = λ a h. gain-tops (a .gain) h;
   fits-zero = none-near 1000000000000;
   fits-of = λ g q h. one-near 1000000000000 g (h .gain);
   fits-add = λ m n a b. sum-near 1000000000000 m n (a .gain) (b .gain);
@@ -88,6 +92,12 @@ lex-less-left c z a x b y h = grind (arith, ints)
 lex-less-right : (c z a x b y : ℤ) → lexical b y a x ≡ false → lexical (b +ℤ c) (y +ℤ z) (a +ℤ c) (x +ℤ z) ≡ false
 lex-less-right c z a x b y h = grind (arith, ints)
 
+more-tops : (g q : ℤ) → Near (1 * 1000000000000) g → Near (1 * 500) q → lexical g q (pos 1000000000000) (pos 500) ≡ true
+more-tops g q h k = let a = h .high in let b = k .high in grind (arith, ints)
+
+fewer-tops : (g q : ℤ) → Near (1 * 1000000000000) g → Near (1 * 500) q → lexical g (negℤ (pos 500)) (pos 1000000000000) q ≡ true
+fewer-tops g q h k = let a = h .high in let b = k .low in grind (arith, ints)
+
 pub pair : {A B X : Type 0} (f : A → B → X) {a a′ : A} {b b′ : B} → a ≡ a′ → b ≡ b′ → f a b ≡ f a′ b′
 pair f p q = cc
 
@@ -104,6 +114,7 @@ more-lawful = record {
   less-left = λ c a b. lex-less-left (c .gain) (c .lots) (a .gain) (a .lots) (b .gain) (b .lots);
   less-right = λ c a b. lex-less-right (c .gain) (c .lots) (a .gain) (a .lots) (b .gain) (b .lots);
   fits-largest = (one-near 1000000000000 (pos 1000000000000) (largest-near 1000000000000), one-near 500 (pos 500) (largest-near 500));
+  tops = λ a h. more-tops (a .gain) (a .lots) (h .0) (h .1);
   fits-zero = (none-near 1000000000000, none-near 500);
   fits-of = λ g q h. (one-near 1000000000000 g (h .gain), one-near 500 q (h .lots));
   fits-add = λ m n a b h k. (sum-near 1000000000000 m n (a .gain) (b .gain) (h .0) (k .0), sum-near 500 m n (a .lots) (b .lots) (h .1) (k .1));
@@ -124,7 +135,8 @@ fewer-lawful = record {
   keeps-right = λ c a b. lex-right (c .gain) (c .lots) (a .gain) (b .lots) (b .gain) (a .lots);
   less-left = λ c a b. lex-less-left (c .gain) (c .lots) (a .gain) (b .lots) (b .gain) (a .lots);
   less-right = λ c a b. lex-less-right (c .gain) (c .lots) (a .gain) (b .lots) (b .gain) (a .lots);
-  fits-largest = (one-near 1000000000000 (pos 1000000000000) (largest-near 1000000000000), one-near 500 (pos 500) (largest-near 500));
+  fits-largest = (one-near 1000000000000 (pos 1000000000000) (largest-near 1000000000000), one-near 500 (negℤ (pos 500)) (lowest-near 500));
+  tops = λ a h. fewer-tops (a .gain) (a .lots) (h .0) (h .1);
   fits-zero = (none-near 1000000000000, none-near 500);
   fits-of = λ g q h. (one-near 1000000000000 g (h .gain), one-near 500 q (h .lots));
   fits-add = λ m n a b h k. (sum-near 1000000000000 m n (a .gain) (b .gain) (h .0) (k .0), sum-near 500 m n (a .lots) (b .lots) (h .1) (k .1));
@@ -154,6 +166,7 @@ int-lawful = record {
   less-left = le-less-left;
   less-right = le-less-right;
   fits-largest = one-near 1000000000000 (pos 1000000000000) (largest-near 1000000000000);
+  tops = gain-tops;
   fits-zero = none-near 1000000000000;
   fits-of = λ g q h. one-near 1000000000000 g (h .gain);
   fits-add = sum-near 1000000000000;

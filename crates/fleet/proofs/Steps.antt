@@ -1,21 +1,19 @@
 -- One period of the search: over the arcs, and from one period to the one before. Assumes nothing.
 use mathlib.Core.Path.{_≡_, refl, sym, ap, subst, _∙_}
 use mathlib.Core.Logic.{_⊎_, inl, inr, ⊎-elim}
-use mathlib.Core.Bool.{Bool, true, false, cond}
+use mathlib.Core.Bool.{true, false}
 use mathlib.Core.List.{List, [], _∷_}
 use Prim.Native.Nat.{ℕ, suc, _+_, _<_, _≤_}
 use native.Mathlib.Omega.{arith}
-use lib.IntN.{ℤ, pos, _+ℤ_}
+use lib.IntN.{ℤ}
 use lib.ListN.{length}
 use Rattle.std.specs.declared.option.Option.{Option}
 use Rattle.std.specs.declared.option.Option.the-variants.{Some, None}
 use Rattle.std.proofs.shelf.Tests.{cases-lt, both-ways}
-use Rattle.terms.specs.Numbers.{Near}
-use Rattle.fleet.specs.declared.records.Range.{Range}
 use Rattle.fleet.specs.declared.records.Entry.{Entry}
 use Rattle.fleet.specs.Units.{UnitModel, SoundUnit, holds}
 use Rattle.fleet.specs.Schedules.{Prices, AllowedFrom}
-use Rattle.fleet.specs.Scores.{Scale, Lawful, Amount}
+use Rattle.fleet.specs.Scores.{Scale, Lawful}
 use Rattle.fleet.specs.Table.{Best, betterOf, ToGo, Through, Via, Added, worth, scoreFrom}
 use Rattle.fleet.proofs.Arcs.{holds-near, holds-none, arc-to}
 use Rattle.fleet.proofs.RowFacts.{Priced, near-gain}

@@ -1,11 +1,10 @@
 -- From the best by two scores to the supply, and that there is only one. Assumes nothing.
 use mathlib.Core.Path.{_≡_, refl, sym, ap, subst, _∙_}
-use mathlib.Core.Bool.{true}
 use mathlib.Core.List.{List}
 use Prim.Native.Nat.{ℕ}
 use lib.IntN.{ℤ}
 use lib.Signed.{_≤ℤ_}
-use Rattle.std.specs.declared.option.Option.the-variants.{Some, None}
+use Rattle.std.specs.declared.option.Option.the-variants.{Some}
 use Rattle.terms.proofs.Ints.{both-le}
 use Rattle.fleet.specs.declared.records.Entry.{Entry}
 use Rattle.fleet.specs.declared.scores.MoreLots.{MoreLots}

@@ -1,18 +1,16 @@
 -- From the best score of all ways to the best gain of all schedules. Assumes nothing.
 use mathlib.Core.Path.{_≡_, refl, sym, ap, subst, _∙_}
-use mathlib.Core.Bool.{true, false}
+use mathlib.Core.Bool.{true}
 use mathlib.Core.List.{List, [], _∷_}
 use Prim.Native.Nat.{ℕ, _+_}
 use native.Mathlib.Omega.{arith}
 use lib.IntN.{ℤ, pos, _+ℤ_}
-use lib.ListN.{length}
 use lib.Signed.{_≤ℤ_}
-use Rattle.std.specs.declared.option.Option.{Option}
 use Rattle.std.specs.declared.option.Option.the-variants.{Some, None}
 use Rattle.terms.proofs.Ints.{both-le}
 use Rattle.fleet.specs.declared.records.Entry.{Entry}
 use Rattle.fleet.specs.Units.{UnitModel}
-use Rattle.fleet.specs.Schedules.{Prices, Schedule, NoSchedule, gainFrom, gainOf, lotsOf}
+use Rattle.fleet.specs.Schedules.{Prices, Schedule, NoSchedule, gainFrom, lotsOf}
 use Rattle.fleet.specs.Gains.{Gains, BestGain, entryGain}
 use Rattle.fleet.specs.Scores.{Scale}
 use Rattle.fleet.specs.Table.{Best, ToGo, worth, scoreFrom}

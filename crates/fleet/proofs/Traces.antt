@@ -1,19 +1,17 @@
 -- The first of the best ways, entry by entry. Assumes nothing.
 use mathlib.Core.Path.{_≡_, refl, sym, ap, subst, _∙_}
-use mathlib.Core.Logic.{_⊎_, inl, inr, ⊎-elim}
-use mathlib.Core.Bool.{Bool, true, false}
+use mathlib.Core.Logic.{_⊎_, ⊎-elim}
+use mathlib.Core.Bool.{true}
 use mathlib.Core.List.{List, [], _∷_, _++_}
-use Prim.Native.Nat.{ℕ, _+_, _*_, _<_, _≤_}
+use Prim.Native.Nat.{ℕ, _+_, _<_, _≤_}
 use native.Mathlib.Omega.{arith}
-use lib.IntN.{ℤ}
-use lib.ListN.{length, getD, take, drop, set}
-use Rattle.std.specs.declared.option.Option.{Option}
-use Rattle.std.specs.declared.option.Option.the-variants.{Some, None}
+use lib.ListN.{length, take, drop, set}
+use Rattle.std.specs.declared.option.Option.the-variants.{Some}
 use Rattle.std.proofs.shelf.Lists.{take-more-set, drop-set-lt, append-assoc, append-nil}
 use Rattle.fleet.specs.declared.records.Entry.{Entry}
 use Rattle.fleet.specs.Scores.{Scale, Lawful}
 use Rattle.fleet.specs.Units.{UnitModel, SoundUnit}
-use Rattle.fleet.specs.Schedules.{Prices, Goes, AllowedFrom, Precedes}
+use Rattle.fleet.specs.Schedules.{Prices, AllowedFrom, Precedes}
 use Rattle.fleet.specs.Table.{Best, ToGo, Through, Step, FirstWay, worth, scoreFrom}
 use Rattle.fleet.proofs.ScoreLaws.{pair}
 use Rattle.fleet.proofs.Arcs.{arc-to}

@@ -12,9 +12,11 @@ use Rattle.terms.specs.declared.decline.Decline.{Decline}
 use Rattle.terms.specs.declared.decline.Layer.the-variants.{Docket}
 use Rattle.fleet.specs.declared.records.Entry.{Entry}
 use Rattle.fleet.specs.declared.schedules.Account.{Account}
-use Rattle.fleet.specs.Units.{UnitModel}
+use Rattle.fleet.specs.declared.rows.PriceRow.{PriceRow}
+use Rattle.fleet.specs.Units.{UnitModel, Meaning}
 use Rattle.fleet.specs.Schedules.{Prices, Allowed, FirstBad, NoSchedule, costOf, gainOf}
-use Rattle.fleet.specs.Gains.{First}
+use Rattle.fleet.specs.Rows.{pricesOf}
+use Rattle.fleet.specs.Gains.{BestGain, Supply, First}
 
 -- the schedule check: cost and gain of what is allowed, else 27 at the first bad period
 abbrev pub Checked : UnitModel → Prices → List Entry → Result Account Decline → Type 0
@@ -30,12 +32,23 @@ abbrev pub Searched : {X : Type 0} → Type 0 → UnitModel → ℕ → ℕ → 
 Searched room p T u Is (Ok x) = room × Is x
 Searched room p T u Is (Err d) = ((room → ⊥) × Says Docket 30 u d) ⊎ (room × NoSchedule p T × Says Docket 32 u d)
 
+-- the buffer past T is as it was, and at a decline all of it
+abbrev pub Kept : {X : Type 0} → ℕ → List Entry → List Entry → Result X Decline → Type 0
+Kept T old new (Ok x) = drop T new ≡ drop T old
+Kept T old new (Err d) = new ≡ old
+
+-- the three searches, at a checked row of the day's prices
+abbrev pub BestGainAnswer : Meaning → ℕ → PriceRow → ℕ → Result ℤ Decline → Type 0
+BestGainAnswer m u row slots r = Searched (Room slots) (m .model u) (row .periods) u (BestGain (m .model u) (row .periods) (pricesOf row)) r
+
+abbrev pub SupplyAnswer : Meaning → ℕ → PriceRow → ℕ → ℕ → Result (ℤ × ℤ × ℤ) Decline → Type 0
+SupplyAnswer m u row fewer more r = Searched (Room fewer × Room more) (m .model u) (row .periods) u (Supply (m .model u) (row .periods) (pricesOf row)) r
+
+-- with what is in the buffer before and after
+abbrev pub FirstBestAnswer : {X : Type 0} → Meaning → ℕ → PriceRow → ℕ → List Entry → List Entry → Result X Decline → Type 0
+FirstBestAnswer m u row slots old new r = Searched (Room slots × (row .periods ≤ length old)) (m .model u) (row .periods) u (λ _. First (m .model u) (row .periods) (pricesOf row) (take (row .periods) new)) r × Kept (row .periods) old new r
+
 -- a work table after a search is free: its length is kept and no more is promised, but without room it is untouched
 pub record Free {X : Type 0} (room : Type 0) (old new : List X) : Type 0 where
   pub long : length new ≡ length old
   pub untouched : (room → ⊥) → new ≡ old
-
--- a buffer after a search for the first best schedule of T periods: written with it up to T, untouched at a decline
-abbrev pub Shown : {X : Type 0} → UnitModel → ℕ → Prices → List Entry → List Entry → Result X Decline → Type 0
-Shown p T r old new (Ok x) = First p T r (take T new) × (drop T new ≡ drop T old)
-Shown p T r old new (Err d) = new ≡ old

@@ -62,7 +62,7 @@ bestFrom p r (suc k) t a = greatest (p .states) (λ b. greatest 1001 (λ i. onwa
 abbrev pub bestGain : UnitModel → ℕ → Prices → Option ℤ
 bestGain p T r = bestFrom p r T 0 (p .start)
 
--- it is the best gain of every unit, over any number of periods and at every row of whole numbers
+-- it is the best gain of every unit that keeps the bounds, over any number of periods and at every row of whole numbers
 abbrev pub Best-gain-law : Type 0
 Best-gain-law = (p : UnitModel) → SoundUnit p → (T : ℕ) (r : Prices) → IsBest p T r (bestGain p T r)
 

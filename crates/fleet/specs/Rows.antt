@@ -1,18 +1,18 @@
 -- Checked rows: what they hold, and which are declined. Assumes nothing.
 use mathlib.Core.Path.{_≡_}
-use mathlib.Core.Bool.{Bool, true, false, cond, _&&_}
+use mathlib.Core.Bool.{cond, _&&_}
 use mathlib.Core.List.{List}
-use Prim.Native.Nat.{ℕ}
+use Prim.Native.Nat.{ℕ, _<_, _≤_}
 use lib.Dec.{eqb, leb, ltb}
-use lib.IntN.{ℤ}
-use lib.ListN.{length, take}
+use lib.IntN.{ℤ, pos}
+use lib.ListN.{length, getD, take}
 use Rattle.std.specs.declared.option.Option.{Option}
 use Rattle.std.specs.declared.option.Option.the-variants.{None, Some}
 use Rattle.std.specs.declared.result.Result.{Result}
 use Rattle.std.specs.declared.result.Result.the-variants.{Ok, Err}
 use Rattle.std.specs.shelf.Lists.{leading}
 use Rattle.terms.specs.Declines.{Says}
-use Rattle.terms.specs.Numbers.{near}
+use Rattle.terms.specs.Numbers.{Near, near}
 use Rattle.terms.specs.declared.decline.Decline.{Decline}
 use Rattle.terms.specs.declared.decline.Layer.the-variants.{Docket}
 use Rattle.fleet.specs.declared.rows.PriceRow.{PriceRow}
@@ -59,3 +59,20 @@ pub record PriceRowOf (T d : ℕ) (ns : List ℤ) (r : PriceRow) : Type 0 where
 pub record NeedRowOf (T : ℕ) (xs : List ℤ) (r : NeedRow) : Type 0 where
   pub long : r .periods ≡ T
   pub needs : wantedOf r ≡ xs
+
+-- T numbers within ±m
+pub record Bounded (T m : ℕ) (xs : List ℤ) : Type 0 where
+  pub long : length xs ≡ T
+  pub each : (t : ℕ) → t < T → Near m (getD xs t (pos 0))
+
+pub record SoundPrices (T d : ℕ) (ns : List ℤ) : Type 0 where
+  pub bounded : Bounded T 1000000000 ns
+  pub low : 1 ≤ d
+  pub high : d ≤ 1000
+
+-- nothing is wrong exactly where the rules are kept
+abbrev pub Price-row-law : Type 0
+Price-row-law = (T d : ℕ) (ns : List ℤ) → (priceFault T d ns ≡ None → SoundPrices T d ns) × (SoundPrices T d ns → priceFault T d ns ≡ None)
+
+abbrev pub Need-row-law : Type 0
+Need-row-law = (T : ℕ) (xs : List ℤ) → (needFault T xs ≡ None → Bounded T 32000 xs) × (Bounded T 32000 xs → needFault T xs ≡ None)

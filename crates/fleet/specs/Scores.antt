@@ -2,7 +2,7 @@
 use mathlib.Core.Path.{_≡_}
 use mathlib.Core.Bool.{Bool, true, false, cond}
 use Prim.Native.Nat.{ℕ, _+_, _*_}
-use lib.IntN.{ℤ, pos, _+ℤ_}
+use lib.IntN.{ℤ, pos, negℤ, _+ℤ_}
 use lib.Signed.{leZ, ltZ}
 use Rattle.terms.specs.Numbers.{Near}
 use Rattle.fleet.specs.declared.scores.Gain.{Gain}
@@ -17,13 +17,19 @@ pub record Scale (S : Type 0) : Type 1 where
   pub atMost : S → S → Bool
   -- the largest amount that one period may add
   pub largest : S
-  -- no further from zero than k of these amounts
+  -- no further from zero than k periods can come
   pub fits : ℕ → S → Type 0
 
--- the gain and lots that an entry can have at a checked price row
+-- how far an entry's gain and lots can be from zero at a checked price row
+abbrev pub gainLimit : ℕ
+gainLimit = 1000000000000
+
+abbrev pub lotsLimit : ℕ
+lotsLimit = 500
+
 pub record Amount (g q : ℤ) : Type 0 where
-  pub gain : Near 1000000000000 g
-  pub lots : Near 500 q
+  pub gain : Near gainLimit g
+  pub lots : Near lotsLimit q
 
 pub record Lawful {S : Type 0} (s : Scale S) : Type 0 where
   pub total : (a b : S) → s .atMost a b ≡ false → s .atMost b a ≡ true
@@ -38,7 +44,9 @@ pub record Lawful {S : Type 0} (s : Scale S) : Type 0 where
   -- and less, which is not at most the other way round
   pub less-left : (c a b : S) → s .atMost b a ≡ false → s .atMost (s .add c b) (s .add c a) ≡ false
   pub less-right : (c a b : S) → s .atMost b a ≡ false → s .atMost (s .add b c) (s .add a c) ≡ false
+  -- one period may add the largest amount, and none that is larger
   pub fits-largest : s .fits 1 (s .largest)
+  pub tops : (a : S) → s .fits 1 a → s .atMost a (s .largest) ≡ true
   pub fits-zero : s .fits 0 (s .zero)
   pub fits-of : (g q : ℤ) → Amount g q → s .fits 1 (s .of g q)
   pub fits-add : (m n : ℕ) (a b : S) → s .fits m a → s .fits n b → s .fits (m + n) (s .add a b)
@@ -49,8 +57,8 @@ gainScale = record {
   zero = record { gain = pos 0 };
   add = λ a b. record { gain = a .gain +ℤ b .gain };
   atMost = λ a b. leZ (a .gain) (b .gain);
-  largest = record { gain = pos 1000000000000 };
-  fits = λ k a. Near (k * 1000000000000) (a .gain);
+  largest = record { gain = pos gainLimit };
+  fits = λ k a. Near (k * gainLimit) (a .gain);
 }
 
 -- by the first number, then by the second
@@ -63,8 +71,8 @@ moreScale = record {
   zero = record { gain = pos 0; lots = pos 0 };
   add = λ a b. record { gain = a .gain +ℤ b .gain; lots = a .lots +ℤ b .lots };
   atMost = λ a b. lexical (a .gain) (a .lots) (b .gain) (b .lots);
-  largest = record { gain = pos 1000000000000; lots = pos 500 };
-  fits = λ k a. Near (k * 1000000000000) (a .gain) × Near (k * 500) (a .lots);
+  largest = record { gain = pos gainLimit; lots = pos lotsLimit };
+  fits = λ k a. Near (k * gainLimit) (a .gain) × Near (k * lotsLimit) (a .lots);
 }
 
 abbrev pub fewerScale : Scale FewerLots
@@ -73,6 +81,6 @@ fewerScale = record {
   zero = record { gain = pos 0; lots = pos 0 };
   add = λ a b. record { gain = a .gain +ℤ b .gain; lots = a .lots +ℤ b .lots };
   atMost = λ a b. lexical (a .gain) (b .lots) (b .gain) (a .lots);
-  largest = record { gain = pos 1000000000000; lots = pos 500 };
-  fits = λ k a. Near (k * 1000000000000) (a .gain) × Near (k * 500) (a .lots);
+  largest = record { gain = pos gainLimit; lots = negℤ (pos lotsLimit) };
+  fits = λ k a. Near (k * gainLimit) (a .gain) × Near (k * lotsLimit) (a .lots);
 }

@@ -1,13 +1,10 @@
 // What is asked of a unit at a price row: its best gain, its supply, and its first best schedule.
-ghost use mathlib.Core.Path.{_≡_};
-ghost use Prim.Native.Nat.{ℕ, _≤_};
+ghost use Prim.Native.Nat.{_≤_};
 ghost use lib.ListN.{length};
 ghost use Rattle.terms.specs.Declines.{Says};
 ghost use Rattle.terms.specs.declared.decline.Layer.the-variants.{Docket};
-ghost use Rattle.fleet.specs.Units.{Meaning};
-ghost use Rattle.fleet.specs.Rows.{pricesOf};
-ghost use Rattle.fleet.specs.Gains.{BestGain, Best-gain-law, Supply, Supply-law, First-law};
-ghost use Rattle.fleet.specs.Answers.{Room, Searched, Free, Shown};
+ghost use Rattle.fleet.specs.Gains.{Best-gain-law, Supply-law, First-law};
+ghost use Rattle.fleet.specs.Answers.{Room, Free, BestGainAnswer, SupplyAnswer, FirstBestAnswer};
 use crate::fleets::Fleet;
 use crate::records::Entry;
 use crate::rows::PriceRow;
@@ -23,7 +20,7 @@ use terms::Cause;
 use terms::Decline;
 
 // The slots of a work table: 80 states at the start of each of 48 periods and at the end of the day.
-const SLOTS: usize = 3920;
+pub const SLOTS: usize = 3920;
 
 fn too_little_room(unit: usize) -> Decline
     ensures { λ r. ⌜ Says Docket 30 unit r ⌝ }
@@ -51,7 +48,7 @@ pub fn best_gain<F: Fleet>(
     row: &PriceRow,
     table: &mut [Option<Gain>],
 ) -> Result<i64, Decline>
-    ensures best { λ r. ⌜ Searched (Room (length (now (table .entry)))) (F·Fleet .meaning (now (fleet .entry)) .model unit) (now (row .entry) .periods) unit (BestGain (F·Fleet .meaning (now (fleet .entry)) .model unit) (now (row .entry) .periods) (pricesOf (now (row .entry)))) r ⌝ }
+    ensures best { λ r. ⌜ BestGainAnswer (F·Fleet .meaning (now (fleet .entry))) unit (now (row .entry)) (length (now (table .entry))) r ⌝ }
     ensures table { λ _. ⌜ Free (Room (length (now (table .entry)))) (now (table .entry)) (now (table .exit)) ⌝ }
     ensures law { λ _. ⌜ Best-gain-law ⌝ }
 {
@@ -73,7 +70,7 @@ pub fn supply<F: Fleet>(
     fewer: &mut [Option<FewerLots>],
     more: &mut [Option<MoreLots>],
 ) -> Result<(i64, i64, i64), Decline>
-    ensures supply { λ r. ⌜ Searched ((Room (length (now (fewer .entry)))) × (Room (length (now (more .entry))))) (F·Fleet .meaning (now (fleet .entry)) .model unit) (now (row .entry) .periods) unit (Supply (F·Fleet .meaning (now (fleet .entry)) .model unit) (now (row .entry) .periods) (pricesOf (now (row .entry)))) r ⌝ }
+    ensures supply { λ r. ⌜ SupplyAnswer (F·Fleet .meaning (now (fleet .entry))) unit (now (row .entry)) (length (now (fewer .entry))) (length (now (more .entry))) r ⌝ }
     ensures fewer { λ _. ⌜ Free ((Room (length (now (fewer .entry)))) × (Room (length (now (more .entry))))) (now (fewer .entry)) (now (fewer .exit)) ⌝ }
     ensures more { λ _. ⌜ Free ((Room (length (now (fewer .entry)))) × (Room (length (now (more .entry))))) (now (more .entry)) (now (more .exit)) ⌝ }
     ensures law { λ _. ⌜ Supply-law ⌝ }
@@ -99,8 +96,7 @@ pub fn first_best<F: Fleet>(
     table: &mut [Option<Gain>],
     out: &mut [Entry],
 ) -> Result<(), Decline>
-    ensures answer { λ r. ⌜ Searched ((Room (length (now (table .entry)))) × (now (row .entry) .periods ≤ length (now (out .entry)))) (F·Fleet .meaning (now (fleet .entry)) .model unit) (now (row .entry) .periods) unit (λ _. Unit {0}) r ⌝ }
-    ensures out { λ r. ⌜ Shown (F·Fleet .meaning (now (fleet .entry)) .model unit) (now (row .entry) .periods) (pricesOf (now (row .entry))) (now (out .entry)) (now (out .exit)) r ⌝ }
+    ensures first { λ r. ⌜ FirstBestAnswer (F·Fleet .meaning (now (fleet .entry))) unit (now (row .entry)) (length (now (table .entry))) (now (out .entry)) (now (out .exit)) r ⌝ }
     ensures table { λ _. ⌜ Free ((Room (length (now (table .entry)))) × (now (row .entry) .periods ≤ length (now (out .entry)))) (now (table .entry)) (now (table .exit)) ⌝ }
     ensures law { λ _. ⌜ First-law ⌝ }
 {

@@ -9,6 +9,7 @@ mod schedules;
 mod scores;
 mod search;
 
+pub use answers::SLOTS;
 pub use answers::best_gain;
 pub use answers::first_best;
 pub use answers::supply;

@@ -1,11 +1,10 @@
 // The schedule check.
 ghost use mathlib.Core.Path.{_≡_};
-ghost use Prim.Native.Nat.{ℕ, _≤_};
+ghost use Prim.Native.Nat.{_≤_};
 ghost use lib.IntN.{ℤ, pos, _-ℤ_, _*ℤ_};
 ghost use Rattle.terms.specs.Declines.{Says};
 ghost use Rattle.terms.specs.Numbers.{Near};
 ghost use Rattle.terms.specs.declared.decline.Layer.the-variants.{Docket};
-ghost use Rattle.fleet.specs.Units.{Meaning};
 ghost use Rattle.fleet.specs.Rows.{pricesOf};
 ghost use Rattle.fleet.specs.Answers.{Checked};
 use crate::fleets::Fleet;

@@ -16,11 +16,11 @@ pub trait Score: Copy {
     fn zero() -> Self
         ensures { λ r. ⌜ r ≡ scale .zero ⌝ };
 
-    // The largest amount that one period may add; 48 of these add exactly.
+    // The largest amount that one period may add.
     fn largest() -> Self
         ensures { λ r. ⌜ r ≡ scale .largest ⌝ };
 
-    // One period's score and that of fewer than 48 others.
+    // One period's score and that of fewer than 48 others: the largest amount of 48 periods still adds exactly.
     fn plus(self, other: Self) -> Self
         requires { ⌜ ((k : ℕ) × (k < 48) × scale .fits 1 self × scale .fits k other) ⌝ }
         ensures { λ r. ⌜ r ≡ scale .add self other ⌝ };
@@ -128,7 +128,7 @@ pub impl Score for FewerLots as FewerLotsScore {
     fn largest() -> FewerLots {
         FewerLots {
             gain: 1_000_000_000_000,
-            lots: 500,
+            lots: -500,
         }
     }
 

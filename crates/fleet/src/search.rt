@@ -4,9 +4,9 @@ ghost use Prim.Native.Nat.{ℕ, _+_, _*_, _<_, _≤_};
 ghost use lib.ListN.{length, take, drop};
 ghost use Rattle.std.specs.declared.option.Option.the-variants.{Some, None};
 ghost use Rattle.terms.specs.Numbers.{Near};
-ghost use Rattle.fleet.specs.Units.{Meaning, SoundArc};
+ghost use Rattle.fleet.specs.Units.{SoundArc};
 ghost use Rattle.fleet.specs.Rows.{pricesOf};
-ghost use Rattle.fleet.specs.Scores.{Scale};
+ghost use Rattle.fleet.specs.Answers.{Room};
 ghost use Rattle.fleet.specs.Table.{Best, betterOf, worth, Added, ToGo, Via, Row, Rows, Kept, Step, FirstWay};
 use crate::fleets::Fleet;
 use crate::records::Entry;
@@ -15,7 +15,7 @@ use crate::rows::PriceRow;
 use crate::schedules::gain_of;
 use crate::scores::Score;
 
-// A work table has a slot for each state at the start of each period and at the end of the day.
+// The slots of a period in a work table, one for each state that a unit can have.
 const STATES: usize = 80;
 
 // The better of what is had so far and one more score.
@@ -109,7 +109,7 @@ fn best_next<F: Fleet, S: Score>(
     table: &[Option<S>],
 ) -> Option<S>
     requires within { ⌜ period < now row .periods ⌝ }
-    requires slots { ⌜ 3920 ≤ length (now table) ⌝ }
+    requires slots { ⌜ Room (length (now table)) ⌝ }
     requires next { ⌜ Row (S·Score .scale) (F·Fleet .meaning (now fleet) .model unit) (pricesOf (now row)) (now row .periods) (period + 1) (now table) ⌝ }
     ensures { λ r. ⌜ Best (S·Score .scale) (ToGo (S·Score .scale) (F·Fleet .meaning (now (fleet .entry)) .model unit) (pricesOf (now (row .entry))) (now (row .entry) .periods) period from) r ⌝ }
 {
@@ -125,7 +125,7 @@ fn best_next<F: Fleet, S: Score>(
 
 // The slots of the end of the day.
 fn fill_end<F: Fleet, S: Score>(fleet: &F, unit: usize, row: &PriceRow, table: &mut [Option<S>])
-    requires { ⌜ 3920 ≤ length (now table) ⌝ }
+    requires { ⌜ Room (length (now table)) ⌝ }
     ensures { λ _. ⌜ Row (S·Score .scale) (F·Fleet .meaning (now (fleet .entry)) .model unit) (pricesOf (now (row .entry))) (now (row .entry) .periods) (now (row .entry) .periods) (now (table .exit)) ⌝ }
 {
     let period = row.periods();
@@ -147,7 +147,7 @@ fn fill_period<F: Fleet, S: Score>(
     table: &mut [Option<S>],
 )
     requires within { ⌜ period < now row .periods ⌝ }
-    requires slots { ⌜ 3920 ≤ length (now table) ⌝ }
+    requires slots { ⌜ Room (length (now table)) ⌝ }
     requires next { ⌜ Row (S·Score .scale) (F·Fleet .meaning (now fleet) .model unit) (pricesOf (now row)) (now row .periods) (period + 1) (now table) ⌝ }
     ensures filled { λ _. ⌜ Row (S·Score .scale) (F·Fleet .meaning (now (fleet .entry)) .model unit) (pricesOf (now (row .entry))) (now (row .entry) .periods) period (now (table .exit)) ⌝ }
     ensures later { λ _. ⌜ Kept ((period + 1) * 80) (now (table .entry)) (now (table .exit)) ⌝ }
@@ -159,7 +159,7 @@ fn fill_period<F: Fleet, S: Score>(
 
 // The best to go from each state of each period, backward from the end of the day.
 fn fill<F: Fleet, S: Score>(fleet: &F, unit: usize, row: &PriceRow, table: &mut [Option<S>])
-    requires { ⌜ 3920 ≤ length (now table) ⌝ }
+    requires { ⌜ Room (length (now table)) ⌝ }
     ensures { λ _. ⌜ Rows (S·Score .scale) (F·Fleet .meaning (now (fleet .entry)) .model unit) (pricesOf (now (row .entry))) (now (row .entry) .periods) 0 (now (table .exit)) ⌝ }
 {
     fill_end(fleet, unit, row, table);
@@ -175,7 +175,7 @@ pub(crate) fn best<F: Fleet, S: Score>(
     row: &PriceRow,
     table: &mut [Option<S>],
 ) -> Option<S>
-    requires { ⌜ 3920 ≤ length (now table) ⌝ }
+    requires { ⌜ Room (length (now table)) ⌝ }
     ensures is { λ r. ⌜ Best (S·Score .scale) (ToGo (S·Score .scale) (F·Fleet .meaning (now (fleet .entry)) .model unit) (pricesOf (now (row .entry))) (now (row .entry) .periods) 0 (F·Fleet .meaning (now (fleet .entry)) .model unit .start)) r ⌝ }
     ensures filled { λ _. ⌜ Rows (S·Score .scale) (F·Fleet .meaning (now (fleet .entry)) .model unit) (pricesOf (now (row .entry))) (now (row .entry) .periods) 0 (now (table .exit)) ⌝ }
 {
@@ -194,7 +194,7 @@ fn first_step<F: Fleet, S: Score>(
     table: &[Option<S>],
 ) -> Entry
     requires within { ⌜ period < now row .periods ⌝ }
-    requires slots { ⌜ 3920 ≤ length (now table) ⌝ }
+    requires slots { ⌜ Room (length (now table)) ⌝ }
     requires next { ⌜ Row (S·Score .scale) (F·Fleet .meaning (now fleet) .model unit) (pricesOf (now row)) (now row .periods) (period + 1) (now table) ⌝ }
     requires best { ⌜ Best (S·Score .scale) (ToGo (S·Score .scale) (F·Fleet .meaning (now fleet) .model unit) (pricesOf (now row)) (now row .periods) period from) (Some best) ⌝ }
     ensures { λ r. ⌜ Step (S·Score .scale) (F·Fleet .meaning (now (fleet .entry)) .model unit) (pricesOf (now (row .entry))) (now (row .entry) .periods) period from best r ⌝ }
@@ -231,7 +231,7 @@ pub(crate) fn trace<F: Fleet, S: Score>(
     table: &[Option<S>],
     out: &mut [Entry],
 )
-    requires slots { ⌜ 3920 ≤ length (now table) ⌝ }
+    requires slots { ⌜ Room (length (now table)) ⌝ }
     requires filled { ⌜ Rows (S·Score .scale) (F·Fleet .meaning (now fleet) .model unit) (pricesOf (now row)) (now row .periods) 0 (now table) ⌝ }
     requires best { ⌜ Best (S·Score .scale) (ToGo (S·Score .scale) (F·Fleet .meaning (now fleet) .model unit) (pricesOf (now row)) (now row .periods) 0 (F·Fleet .meaning (now fleet) .model unit .start)) (Some best) ⌝ }
     requires room { ⌜ now row .periods ≤ length (now out) ⌝ }
@@ -245,9 +245,7 @@ pub(crate) fn trace<F: Fleet, S: Score>(
         out[period] = step;
         state = step.state;
         let slot = table[(period + 1) * STATES + state];
-        let Some(rest) = slot else {
-            return;
-        };
+        let Some(rest) = slot else { unreachable() };
         to_go = rest;
     }
 }

@@ -1,6 +1,6 @@
 -- What heeded rows keep, and that an arc table is sound. Assumes nothing.
-use mathlib.Core.Path.{_≡_, refl, sym, ap, subst, _∙_}
-use mathlib.Core.Logic.{_⊎_, inl, inr, ⊎-elim}
+use mathlib.Core.Path.{_≡_, refl, sym, subst, _∙_}
+use mathlib.Core.Logic.{_⊎_, ⊎-elim}
 use mathlib.Core.Bool.{Bool, true, false, cond, _&&_}
 use mathlib.Core.List.{List, [], _∷_}
 use Prim.Native.Nat.{ℕ, _<_, _≤_, min}
@@ -16,11 +16,10 @@ use Rattle.std.proofs.shelf.Ways.{tells}
 use Rattle.terms.specs.Numbers.{Near, near}
 use Rattle.terms.proofs.Ints.{test-le}
 use Rattle.terms.proofs.Bounds.{near-test, near-mul, near-add, near-zero, near-between}
-use Rattle.fleet.specs.declared.records.Range.{Range}
-use Rattle.fleet.specs.Units.{UnitModel, SoundUnit, Sound, Lacking, SoundArc, among, holds}
+use Rattle.fleet.specs.Units.{SoundUnit, Sound, SoundArc, among, holds}
 use Rattle.fleet.proofs.Arcs.{among-low, among-high}
 use Rattle.fleet_kinds.specs.declared.rows.ArcRow.{ArcRow}
-use Rattle.fleet_kinds.specs.ArcTables.{existing, ranged, bounded, heeded, about, isFor, firstOf, rowFor, rowRange, rangeOf, costOn, tableUnit, tableMeaning}
+use Rattle.fleet_kinds.specs.ArcTables.{existing, ranged, heeded, isFor, firstOf, rowFor, rowRange, rangeOf, costOn, tableUnit, tableMeaning}
 
 -- a heeded row for this unit, period and these states
 pub record HeededFor (n u t a b : ℕ) (r : ArcRow) : Type 0 where

@@ -1,11 +1,9 @@
 -- What a fleet under outages means, and what adding one does. Assumes nothing.
-use mathlib.Core.Path.{_≡_}
 use mathlib.Core.Bool.{Bool, true, false, cond, _&&_}
-use mathlib.Core.List.{List, [], _∷_, _++_}
+use mathlib.Core.List.{List, [], _∷_}
 use Prim.Native.Nat.{ℕ}
 use lib.Dec.{eqb, leb, ltb}
-use lib.IntN.{ℤ, pos}
-use lib.ListN.{take}
+use lib.IntN.{pos}
 use Rattle.std.specs.declared.option.Option.{Option}
 use Rattle.std.specs.declared.option.Option.the-variants.{Some, None}
 use Rattle.std.specs.declared.result.Result.{Result}
@@ -49,8 +47,8 @@ outageFault units count o =
     (Some 13)
 
 -- taken where nothing is wrong, else declined with that number
-abbrev pub Answers : {X : Type 0} → Option ℕ → Result X Decline → Type 0
-Answers None (Ok x) = Unit {0}
-Answers None (Err d) = ⊥
-Answers (Some n) (Ok x) = ⊥
-Answers (Some n) (Err d) = Says Fleet n 0 d
+abbrev pub AddAnswer : {X : Type 0} → Option ℕ → Result X Decline → Type 0
+AddAnswer None (Ok x) = Unit {0}
+AddAnswer None (Err d) = ⊥
+AddAnswer (Some n) (Ok x) = ⊥
+AddAnswer (Some n) (Err d) = Says Fleet n 0 d

@@ -1,8 +1,7 @@
 // A fleet given by listed rows.
 ghost use mathlib.Core.Path.{_≡_};
-ghost use Prim.Native.Nat.{ℕ, min};
+ghost use Prim.Native.Nat.{min};
 ghost use Rattle.std.specs.Of.Vec.{vec-items};
-ghost use Rattle.fleet.specs.Units.{Meaning};
 ghost use Rattle.fleet_kinds.specs.ArcTables.{rowFor, tableMeaning};
 use crate::rows::ArcRow;
 use crate::rows::cost_of;

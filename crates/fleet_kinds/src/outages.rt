@@ -1,12 +1,11 @@
 // Outages over any fleet.
 ghost use mathlib.Core.Path.{_≡_};
 ghost use mathlib.Core.Bool.{false, cond};
-ghost use mathlib.Core.List.{List, [], _∷_, _++_};
-ghost use Prim.Native.Nat.{ℕ, _≤_};
+ghost use mathlib.Core.List.{[], _∷_, _++_};
+ghost use Prim.Native.Nat.{_≤_};
 ghost use lib.ListN.{take};
 ghost use Rattle.std.specs.Results.{isOk};
-ghost use Rattle.fleet.specs.Units.{Meaning};
-ghost use Rattle.fleet_kinds.specs.OutageLists.{covers, out, onlyZero, outMeaning, outageFault, Answers};
+ghost use Rattle.fleet_kinds.specs.OutageLists.{covers, out, onlyZero, outMeaning, outageFault, AddAnswer};
 use fleet::Fleet;
 use fleet::Range;
 use terms::Cause;
@@ -67,6 +66,7 @@ impl<F: Fleet> Outages<F> {
     pub fn new(fleet: F) -> Outages<F>
         ensures fleet { λ r. ⌜ r .fleet ≡ fleet ⌝ }
         ensures list { λ r. ⌜ take (r .count) (r .list) ≡ [] ⌝ }
+        ensures same { λ r. ⌜ outMeaning (take (r .count) (r .list)) (F·Fleet .meaning (r .fleet)) ≡ F·Fleet .meaning fleet ⌝ }
     {
         Outages {
             fleet,
@@ -81,7 +81,7 @@ impl<F: Fleet> Outages<F> {
 
     // One outage more. Declined with 13 for a 17th, then 14 where there is no such unit, first > last or last > 47.
     pub fn add(&mut self, outage: Outage) -> Result<(), Decline>
-        ensures answer { λ r. ⌜ Answers (outageFault (F·Fleet .meaning (now (self .entry) .fleet) .units) (now (self .entry) .count) outage) r ⌝ }
+        ensures answer { λ r. ⌜ AddAnswer (outageFault (F·Fleet .meaning (now (self .entry) .fleet) .units) (now (self .entry) .count) outage) r ⌝ }
         ensures list { λ r. ⌜ take (now (self .exit) .count) (now (self .exit) .list) ≡ cond (isOk r) (take (now (self .entry) .count) (now (self .entry) .list) ++ (outage ∷ [])) (take (now (self .entry) .count) (now (self .entry) .list)) ⌝ }
         ensures fleet { λ _. ⌜ now (self .exit) .fleet ≡ now (self .entry) .fleet ⌝ }
         ensures untouched { λ r. ⌜ (isOk r ≡ false → now (self .exit) ≡ now (self .entry)) ⌝ }

@@ -1,10 +1,10 @@
 // The rows of an arc table.
 ghost use mathlib.Core.Path.{_≡_};
-ghost use Prim.Native.Nat.{ℕ, _<_, _^_};
-ghost use lib.IntN.{ℤ, _+ℤ_, _*ℤ_};
-ghost use Rattle.terms.specs.Numbers.{Near, near};
+ghost use lib.IntN.{_+ℤ_, _*ℤ_};
+ghost use Rattle.terms.specs.Numbers.{Near};
 ghost use Rattle.fleet_kinds.specs.ArcTables.{existing, ranged, bounded, heeded, about, isFor, rowFor, rowRange};
 use fleet::Range;
+use terms::is_near;
 
 // The unit may go from one state into another in the period, with outputs from lo to hi, for base + rate × output cents.
 #[derive(Clone, Copy)]
@@ -17,14 +17,6 @@ pub struct ArcRow {
     pub hi: i32,
     pub base: i32,
     pub rate: i32,
-}
-
-fn is_near(limit: u32, number: i32) -> bool
-    requires { ⌜ limit < 2 ^ 31 ⌝ }
-    ensures { λ r. ⌜ r ≡ near limit number ⌝ }
-{
-    let limit = limit as i32;
-    -limit <= number && number <= limit
 }
 
 impl ArcRow {

@@ -1,5 +1,5 @@
 -- Numbers near zero: sums, products, and that they fit a machine number. Assumes nothing.
-use mathlib.Core.Path.{_≡_, refl, sym, ap, subst, _∙_}
+use mathlib.Core.Path.{_≡_, sym, subst}
 use mathlib.Core.Bool.{true}
 use Prim.Native.Nat.{ℕ, _+_, _*_, _^_, _<_, _≤_, suc}
 use native.Mathlib.Nat.{mul-le-mul}
@@ -9,12 +9,15 @@ use lib.Signed.{_≤ℤ_}
 use mir.Val.{SFits, toZ, ofZ}
 use mir.Syntax.{w32, w64}
 use Rattle.std.proofs.shelf.Signed.{ints, toZ-ofZ}
-use Rattle.std.proofs.shelf.Tests.{and-parts}
+use Rattle.std.proofs.shelf.Tests.{and-parts, and-from}
 use Rattle.terms.specs.Numbers.{Near, near}
-use Rattle.terms.proofs.Ints.{test-le}
+use Rattle.terms.proofs.Ints.{le-test, test-le}
 
 pub near-test : (m : ℕ) (z : ℤ) → near m z ≡ true → Near m z
 near-test m z h = let k = and-parts _ _ h in record { low = test-le (negℤ (pos m)) z (k .0); high = test-le z (pos m) (k .1) }
+
+pub near-true : (m : ℕ) (z : ℤ) → Near m z → near m z ≡ true
+near-true m z h = and-from _ _ (le-test (negℤ (pos m)) z (h .low)) (le-test z (pos m) (h .high))
 
 pub near-abs : (m : ℕ) (z : ℤ) → Near m z → natAbs z ≤ m
 near-abs m (pos n) h = omega (arith, ints)

@@ -1,6 +1,6 @@
 -- The laws of whole numbers that the library lacks: distributivity, associativity, order under a factor. Assumes nothing.
-use mathlib.Core.Path.{_≡_, refl, sym, ap, _∙_}
-use mathlib.Core.Bool.{true, false}
+use mathlib.Core.Path.{_≡_, sym, ap, _∙_}
+use mathlib.Core.Bool.{true}
 use Prim.Native.Nat.{ℕ, zero, suc, _+_, _*_, _≤_}
 use native.Mathlib.Omega.{arith}
 use lib.IntN.{ℤ, pos, _+ℤ_, _-ℤ_, _*ℤ_, negℤ, *ℤ-comm, ℤ-ind, sucℤ-*ℤ, predℤ-*ℤ, +ℤ-one, -ℤ-one, zero-*ℤ, *ℤ-zero}

@@ -1,30 +1,18 @@
 // Making and reading checked rows.
 ghost use mathlib.Core.Path.{_≡_};
-ghost use mathlib.Core.Bool.{true};
-ghost use Prim.Native.Nat.{ℕ, _≤_, _<_};
-ghost use lib.ListN.{length, getD, take};
-ghost use lib.IntN.{pos};
-ghost use Rattle.std.specs.declared.option.Option.the-variants.{None, Some};
+ghost use Prim.Native.Nat.{_≤_};
+ghost use lib.ListN.{length, take};
+ghost use Rattle.std.specs.declared.option.Option.the-variants.{None};
 ghost use Rattle.std.specs.shelf.Lists.{leading};
-ghost use Rattle.std.specs.Results.{Cases};
-ghost use Rattle.terms.specs.Declines.{Says};
 ghost use Rattle.terms.specs.Numbers.{near};
-ghost use Rattle.terms.specs.declared.decline.Layer.the-variants.{Docket};
-ghost use Rattle.fleet.specs.Rows.{Made, PriceRowOf, NeedRowOf, rowFault, priceFault, needFault, pricesOf};
+ghost use Rattle.fleet.specs.Rows.{Made, PriceRowOf, NeedRowOf, rowFault, priceFault, needFault, pricesOf, Price-row-law, Need-row-law};
 ghost use Rattle.fleet.specs.Schedules.{numeratorAt};
 use crate::periods::Periods;
 use crate::rows::NeedRow;
 use crate::rows::PriceRow;
 use terms::Cause;
 use terms::Decline;
-
-fn is_near(limit: u32, number: i32) -> bool
-    ensures { λ r. ⌜ r ≡ near limit number ⌝ }
-{
-    let limit = i64::from(limit);
-    let number = i64::from(number);
-    -limit <= number && number <= limit
-}
+use terms::is_near;
 
 // The first period whose number lies beyond the limit, or the row's length.
 fn first_beyond(limit: u32, row: &[i32]) -> usize
@@ -72,7 +60,8 @@ fn padded(row: &[i32]) -> [i32; 48]
 impl PriceRow {
     // A row of a day's prices. Declined with 22, then 23 at a numerator, then 23 at the day's length for the denominator.
     pub fn new(periods: Periods, over: u32, numerators: &[i32]) -> Result<PriceRow, Decline>
-        ensures { λ r. ⌜ Made (priceFault (periods .count) over (now (numerators .entry))) (PriceRowOf (periods .count) over (now (numerators .entry))) r ⌝ }
+        ensures made { λ r. ⌜ Made (priceFault (periods .count) over (now (numerators .entry))) (PriceRowOf (periods .count) over (now (numerators .entry))) r ⌝ }
+        ensures law { λ _. ⌜ Price-row-law ⌝ }
     {
         let periods = periods.count();
         check_row(periods, 1_000_000_000, numerators)?;
@@ -96,7 +85,8 @@ impl PriceRow {
         self.over
     }
 
-    pub(crate) fn periods(&self) -> usize
+    // The number of periods of the day.
+    pub fn periods(&self) -> usize
         ensures { λ r. ⌜ r ≡ now (self .entry) .periods ⌝ }
     {
         self.periods
@@ -117,7 +107,8 @@ impl PriceRow {
 impl NeedRow {
     // A row of a day's wanted lots. Declined with 22, then 23.
     pub fn new(periods: Periods, wanted: &[i32]) -> Result<NeedRow, Decline>
-        ensures { λ r. ⌜ Made (needFault (periods .count) (now (wanted .entry))) (NeedRowOf (periods .count) (now (wanted .entry))) r ⌝ }
+        ensures made { λ r. ⌜ Made (needFault (periods .count) (now (wanted .entry))) (NeedRowOf (periods .count) (now (wanted .entry))) r ⌝ }
+        ensures law { λ _. ⌜ Need-row-law ⌝ }
     {
         let periods = periods.count();
         check_row(periods, 32_000, wanted)?;

@@ -1,7 +1,6 @@
-use mathlib.Core.Path.{_≡_, refl}
+use mathlib.Core.Path.{refl}
 use mathlib.Core.Logic.{inl, inr}
 use native.Mathlib.Omega.{arith}
-use borrow.Author.Needs.{needs}
 use Prim.Native.Nat.{_≤_}
 use lib.ListN.{length}
 use Rattle.fleet.specs.Answers.{Room}
@@ -17,7 +16,7 @@ returns-then-table-lt-SLOTS g c =
       | then-table-lt-SLOTS·by·then-table-lt-SLOTS w ↦ omega (arith, room .0, w .if-table-lt-SLOTS .taken)
       | then-table-lt-SLOTS·by·else-table-lt-SLOTS·then-out-periods w ↦ omega (arith, room .1, w .if-out-periods .taken, w .periods .ensures)
     ] in
-    record { answer = inl (none, c .too-little-room .ensures); out = refl; table = record { long = refl; untouched = λ _. refl }; law = first-law }
+    record { first = (inl (none, c .too-little-room .ensures), refl); table = record { long = refl; untouched = λ _. refl }; law = first-law }
 
 pub returns-in-rest : need.returns-in-rest
 returns-in-rest g c =
@@ -25,8 +24,7 @@ returns-in-rest g c =
     let wide = c .if-out-periods .left in
     let room : Room (length (c .args .table .now)) × (c .args .row .now .periods ≤ length (c .args .out .now)) = (c .if-table-lt-SLOTS .left, omega arith) in
     record {
-      answer = inr (room, none-allowed gainScale _ _ _ (c .in-rest .ensures tt .is), c .no-schedule .ensures);
-      out = refl;
+      first = (inr (room, none-allowed gainScale _ _ _ (c .in-rest .ensures tt .is), c .no-schedule .ensures), refl);
       table = record { long = c .best .kept .table; untouched = λ no-room. absurd (no-room room) };
       law = first-law;
     }
@@ -37,8 +35,7 @@ returns g c =
     let wide = c .if-out-periods .left in
     let room : Room (length (c .args .table .now)) × (c .args .row .now .periods ≤ length (c .args .out .now)) = (c .if-table-lt-SLOTS .left, omega arith) in
     record {
-      answer = (room, tt);
-      out = (first-is _ _ _ (c .in-Some .score) _ (c .in-Some .ensures tt .is) (c .trace .ensures .first), c .trace .ensures .past);
+      first = ((room, first-is _ _ _ (c .in-Some .score) _ (c .in-Some .ensures tt .is) (c .trace .ensures .first)), c .trace .ensures .past);
       table = record { long = c .best .kept .table; untouched = λ no-room. absurd (no-room room) };
       law = first-law;
     }

@@ -1,6 +1,5 @@
-use mathlib.Core.Path.{_≡_, sym, subst}
+use mathlib.Core.Path.{sym, subst}
 use native.Mathlib.Omega.{arith}
-use Rattle.fleet.specs.Table.{Best, ToGo, Added}
 use Rattle.fleet.specs.Units.{SoundArc}
 use Rattle.fleet.proofs.RowFacts.{row-priced}
 use Rattle.fleet.proofs.Steps.{via-no-rest, via-best, togo-fits}

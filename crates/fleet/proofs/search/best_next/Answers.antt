@@ -1,11 +1,8 @@
-use mathlib.Core.Path.{_≡_, sym, subst}
 use native.Mathlib.Omega.{arith}
-use borrow.Author.Needs.{needs}
-use Prim.Native.Nat.{_<_, _≤_, _+_, _*_}
-use lib.ListN.{length, getD}
-use Rattle.std.specs.declared.option.Option.the-variants.{Some, None}
+use Prim.Native.Nat.{_<_, _+_, _*_}
+use lib.ListN.{length}
+use Rattle.std.specs.declared.option.Option.the-variants.{None}
 use Rattle.std.proofs.shelf.Lists.{getD-read}
-use Rattle.fleet.specs.Table.{Best, ToGo, Added}
 use Rattle.fleet.proofs.Steps.{upto-less, upto-more, upto-all}
 use Rattle.fleet.proofs.search.best_next.Needs as need
 use Rattle.fleet.proofs.search.best_next.Needs.{in-Some, in-rest}

@@ -1,7 +1,6 @@
-use mathlib.Core.Path.{_≡_, sym, subst, ap, _∙_}
+use mathlib.Core.Path.{ap, _∙_}
 use native.Mathlib.Omega.{arith}
 use lib.IntN.{pos, _+ℤ_}
-use lib.Signed.{_≤ℤ_}
 use Rattle.std.proofs.shelf.Signed.{ints}
 use Rattle.fleet.proofs.Outputs.{tried-none, tried-more, tried-all}
 use Rattle.fleet.proofs.search.best_output.Needs as need

@@ -1,8 +1,6 @@
-use mathlib.Core.Path.{_≡_, sym, subst, ap, _∙_}
-use borrow.Author.Needs.{needs}
+use mathlib.Core.Path.{sym, subst, ap, _∙_}
 use lib.Dec.{lit<}
-use lib.IntN.{ℤ, pos}
-use mir.Val.{SFits, toZ, ofZ}
+use mir.Val.{SFits}
 use mir.Syntax.{w32, w64}
 use Rattle.std.proofs.shelf.Signed.{toZ-ofZ}
 use Rattle.terms.specs.Numbers.{Near}

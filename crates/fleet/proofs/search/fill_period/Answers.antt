@@ -1,8 +1,7 @@
-use mathlib.Core.Path.{_≡_, sym, subst}
 use native.Mathlib.Omega.{arith}
 use borrow.Author.Needs.{needs}
-use Prim.Native.Nat.{_<_, _≤_, _+_, _*_}
-use lib.ListN.{length, getD}
+use Prim.Native.Nat.{_<_, _+_, _*_}
+use lib.ListN.{length}
 use Rattle.fleet.proofs.Slots.{below-next, row-kept, kept-next}
 use Rattle.fleet.proofs.search.fill_period.Needs as need
 

@@ -1,9 +1,8 @@
 use mathlib.Core.Path.{_≡_, sym, subst, ap, _∙_}
 use mathlib.Core.Bool.{true}
 use native.Mathlib.Omega.{arith}
-use Prim.Native.Nat.{_<_, _+_, _*_}
+use Prim.Native.Nat.{_+_}
 use lib.IntN.{pos, _+ℤ_}
-use lib.ListN.{length}
 use lib.Signed.{_≤ℤ_}
 use mir.Val.{toZ, ofZ}
 use mir.Syntax.{w32}
@@ -12,7 +11,6 @@ use Rattle.std.specs.declared.option.Option.the-variants.{Some, None}
 use Rattle.std.proofs.shelf.Signed.{ints}
 use Rattle.fleet.specs.declared.records.Range.{Range}
 use Rattle.fleet.specs.Units.{SoundArc, holds}
-use Rattle.fleet.specs.Table.{Best, ToGo}
 use Rattle.fleet.proofs.Arcs.{among-from}
 use Rattle.fleet.proofs.Slots.{slot-best}
 use Rattle.fleet.proofs.RowFacts.{row-priced}

@@ -1,7 +1,6 @@
-use mathlib.Core.Path.{_≡_, refl, sym, subst}
 use native.Mathlib.Omega.{arith}
 use borrow.Author.Needs.{needs}
-use Prim.Native.Nat.{_<_, _≤_, _+_, _*_}
+use Prim.Native.Nat.{_<_, _+_, _*_}
 use lib.ListN.{length}
 use Rattle.std.specs.declared.option.Option.the-variants.{Some, None}
 use Rattle.fleet.proofs.Arcs.{arc-to}
@@ -59,9 +58,9 @@ offset-table-period g c = let h = place g c .slot in search needs
 pub index-table-period : need.index-table-period
 index-table-period g c = place g c .slot
 
-pub returns-in-rest : need.returns-in-rest
-returns-in-rest g c =
-    let k = place g (need.at·returns-in-rest g c .After-first-step-step) in
+pub unreachable-requires : need.unreachable-requires
+unreachable-requires g c κs =
+    let k = place g (need.at·unreachable-requires g c .After-first-step-step) in
     let st = c .first-step-step .ensures .attains in
     let next = slot-best (g .S·Score .scale) _ _ _ (c .loop-period .period + 1) (c .first-step-step .result .state) (c .args .table .now) _ None (c .pre .filled (c .loop-period .period + 1) (omega arith) (let w = k .within in omega arith)) (k .into) (k .slot) (c .index-table-period .is) (c .in-rest .is) in
     absurd (next (st .rest) (st .togo))

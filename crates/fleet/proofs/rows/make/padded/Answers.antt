@@ -1,9 +1,9 @@
-use mathlib.Core.Path.{_≡_, _∙_, sym, ap}
-use Prim.Native.Nat.{_<_, _≤_}
+use mathlib.Core.Path.{_≡_, _∙_}
+use Prim.Native.Nat.{_<_}
 use native.Mathlib.Omega.{arith}
-use lib.ListN.{length, take, getD, length-set}
-use lib.IntN.{ℤ, pos}
-use mir.Val.{SFits, toZ, ofZ}
+use lib.ListN.{length, getD, length-set}
+use lib.IntN.{pos}
+use mir.Val.{SFits}
 use mir.Syntax.{w32}
 use borrow.Author.Needs.{needs}
 use Rattle.std.proofs.shelf.Lists.{take-more, take-more-set, take-all}

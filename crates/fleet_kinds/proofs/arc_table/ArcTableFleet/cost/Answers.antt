@@ -1,12 +1,10 @@
 use mathlib.Core.Path.{_≡_, sym, ap, _∙_}
-use borrow.Author.Needs.{needs}
 use Prim.Native.Nat.{min}
 use lib.Dec.{lit<}
 use mir.Val.{SFits}
 use mir.Syntax.{w32}
 use Rattle.std.proofs.shelf.Signed.{toZ-ofZ}
 use Rattle.std.specs.Of.Vec.{vec-items}
-use Rattle.terms.specs.Numbers.{Near}
 use Rattle.terms.proofs.Bounds.{near-32, near-between}
 use mathlib.Core.Bool.{true}
 use Rattle.fleet.specs.Units.{among}
