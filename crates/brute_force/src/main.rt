@@ -90,30 +90,26 @@ fn same(a: &Entry, b: &Entry) -> bool {
 }
 
 // The searches' answers for unit 0, or nothing where they are declined.
-fn search_all<F: Fleet>(
-    heap: Global,
-    fleet: &F,
-    row: &PriceRow,
-) -> Result<Option<Found>, AllocError> {
-    let mut table = vec![in heap; None; SLOTS]?;
-    let mut fewer = vec![in heap; None; SLOTS]?;
-    let mut more = vec![in heap; None; SLOTS]?;
+fn search_all<F: Fleet>(fleet: &F, row: &PriceRow) -> Option<Found> {
+    let mut table = [None; SLOTS];
+    let mut fewer = [None; SLOTS];
+    let mut more = [None; SLOTS];
     let mut first = [Entry {
         state: 0,
         output: 0,
     }; 3];
     let Ok((gain, least, most)) = supply(fleet, 0, row, &mut fewer, &mut more) else {
-        return Ok(None);
+        return None;
     };
     if first_best(fleet, 0, row, &mut table, &mut first).is_err() {
-        return Ok(None);
+        return None;
     }
-    Ok(Some(Found {
+    Some(Found {
         gain,
         least,
         most,
         first,
-    }))
+    })
 }
 
 fn same_answer(a: &Found, b: &Found) -> bool {
@@ -124,19 +120,17 @@ fn same_answer(a: &Found, b: &Found) -> bool {
 }
 
 // The searches' answers, held against all schedules tried one by one.
-fn agrees<F: Fleet>(heap: Global, fleet: &F, row: &PriceRow) -> Result<bool, AllocError> {
-    let mut table = vec![in heap; None; SLOTS]?;
+fn agrees<F: Fleet>(fleet: &F, row: &PriceRow) -> bool {
+    let mut table = [None; SLOTS];
     let best = best_gain(fleet, 0, row, &mut table);
-    Ok(
-        match (search_all(heap, fleet, row)?, try_all(fleet, row)) {
-            (Some(a), Some(b)) => match best {
-                Ok(best) => best == b.gain && same_answer(&a, &b),
-                Err(_) => false,
-            },
-            (None, None) => best.is_err(),
-            _ => false,
+    match (search_all(fleet, row), try_all(fleet, row)) {
+        (Some(a), Some(b)) => match best {
+            Ok(best) => best == b.gain && same_answer(&a, &b),
+            Err(_) => false,
         },
-    )
+        (None, None) => best.is_err(),
+        _ => false,
+    }
 }
 
 // A number below n.
@@ -202,7 +196,7 @@ fn try_fleets(heap: Global, seed: &mut u32, fleets: u32) -> Result<(u32, u32), A
             continue;
         };
         tried = tried.saturating_add(2);
-        agreed = agreed.saturating_add(agrees(heap, &fleet, &row)? as u32);
+        agreed = agreed.saturating_add(agrees(&fleet, &row) as u32);
         let mut under = Outages::new(fleet);
         let first = draw(seed, 3) as usize;
         let last = draw(seed, 3) as usize;
@@ -211,7 +205,7 @@ fn try_fleets(heap: Global, seed: &mut u32, fleets: u32) -> Result<(u32, u32), A
             first,
             last,
         });
-        agreed = agreed.saturating_add(agrees(heap, &under, &row)? as u32);
+        agreed = agreed.saturating_add(agrees(&under, &row) as u32);
     }
     Ok((agreed, tried))
 }

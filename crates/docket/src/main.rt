@@ -21,7 +21,7 @@ fn print_pay(rt: &LibcRuntime, unit: usize, due: Pay) -> Result<(), AnyError> {
 
 fn run(rt: &LibcRuntime) -> Result<(), AnyError> {
     let fleet = sample::fleet(rt.alloc())?;
-    let mut table = vec![in rt.alloc(); None; SLOTS]?;
+    let mut table = [None; SLOTS];
     let Some(row) = sample::prices() else {
         return Err("the sample's prices are declined".into());
     };

@@ -33,9 +33,9 @@ Searched room p T u Is (Ok x) = room × Is x
 Searched room p T u Is (Err d) = ((room → ⊥) × Says Docket 30 u d) ⊎ (room × NoSchedule p T × Says Docket 32 u d)
 
 -- the buffer past T is as it was, and at a decline all of it
-abbrev pub Kept : {X : Type 0} → ℕ → List Entry → List Entry → Result X Decline → Type 0
-Kept T old new (Ok x) = drop T new ≡ drop T old
-Kept T old new (Err d) = new ≡ old
+abbrev pub BufferKept : {X : Type 0} → ℕ → List Entry → List Entry → Result X Decline → Type 0
+BufferKept T old new (Ok x) = drop T new ≡ drop T old
+BufferKept T old new (Err d) = new ≡ old
 
 -- the three searches, at a checked row of the day's prices
 abbrev pub BestGainAnswer : Meaning → ℕ → PriceRow → ℕ → Result ℤ Decline → Type 0
@@ -46,7 +46,7 @@ SupplyAnswer m u row fewer more r = Searched (Room fewer × Room more) (m .model
 
 -- with what is in the buffer before and after
 abbrev pub FirstBestAnswer : {X : Type 0} → Meaning → ℕ → PriceRow → ℕ → List Entry → List Entry → Result X Decline → Type 0
-FirstBestAnswer m u row slots old new r = Searched (Room slots × (row .periods ≤ length old)) (m .model u) (row .periods) u (λ _. First (m .model u) (row .periods) (pricesOf row) (take (row .periods) new)) r × Kept (row .periods) old new r
+FirstBestAnswer m u row slots old new r = Searched (Room slots × (row .periods ≤ length old)) (m .model u) (row .periods) u (λ _. First (m .model u) (row .periods) (pricesOf row) (take (row .periods) new)) r × BufferKept (row .periods) old new r
 
 -- a work table after a search is free: its length is kept and no more is promised, but without room it is untouched
 pub record Free {X : Type 0} (room : Type 0) (old new : List X) : Type 0 where

@@ -10,6 +10,7 @@ mod tests {
     use fleet::NeedRow;
     use fleet::Periods;
     use fleet::PriceRow;
+    use fleet::SLOTS;
     use fleet::best_gain;
     use fleet::check_schedule;
     use fleet::first_best;
@@ -96,7 +97,7 @@ mod tests {
         let heap = rt.alloc();
         let fleet = table(heap, 1, &FIRST)?;
         let row = prices(1, &[6])?;
-        let mut slots = vec![in heap; None; 3920]?;
+        let mut slots = [None; SLOTS];
         check_eq(best_gain(&fleet, 0, &row, &mut slots)?, 10)?;
         let run = check_schedule(
             &fleet,
@@ -130,8 +131,8 @@ mod tests {
         let heap = rt.alloc();
         let fleet = table(heap, 1, &FIRST)?;
         let row = prices(1, &[5])?;
-        let mut fewer = vec![in heap; None; 3920]?;
-        let mut more = vec![in heap; None; 3920]?;
+        let mut fewer = [None; SLOTS];
+        let mut more = [None; SLOTS];
         let (best, least, most) = supply(&fleet, 0, &row, &mut fewer, &mut more)?;
         check_eq(best, 0)?;
         check_eq(least, 0)?;
@@ -148,10 +149,9 @@ mod tests {
             &[arc(0, 0, 7, -3, 10, 0, 5), arc(0, 0, 9, -4, 10, 0, 5)],
         )?;
         let row = prices(1, &[5])?;
-        let mut slots = vec![in heap; None; 3920]?;
-        let mut out = vec![in heap; OFF; 3]?;
+        let mut slots = [None; SLOTS];
+        let mut out = [OFF; 3];
         first_best(&fleet, 0, &row, &mut slots, &mut out)?;
-        check(out.len() == 3)?;
         check_eq(out[0].state, 7)?;
         check_eq(out[0].output, -3)?;
         check_eq(out[1].state, 0)
@@ -163,9 +163,9 @@ mod tests {
         let fleet = table(heap, 100, &[])?;
         check_eq(fleet.units(), 64)?;
         let row = prices(7, &[1, 2, 3])?;
-        let mut slots = vec![in heap; None; 3920]?;
+        let mut slots = [None; SLOTS];
         check_eq(said(best_gain(&fleet, 63, &row, &mut slots)), (32, 63))?;
-        let mut short = vec![in heap; None; 3919]?;
+        let mut short = [None; 3919];
         check_eq(said(best_gain(&fleet, 63, &row, &mut short)), (30, 63))
     }
 
@@ -180,7 +180,7 @@ mod tests {
             )?,
         );
         let row = prices(1, &[10, 10])?;
-        let mut slots = vec![in heap; None; 3920]?;
+        let mut slots = [None; SLOTS];
         check_eq(best_gain(&fleet, 0, &row, &mut slots)?, 47)?;
         fleet.add(Outage {
             unit: 0,
@@ -261,11 +261,10 @@ mod tests {
         }
         let fleet = ArcTable::new(1, rows);
         let row = prices(1000, &[1_000_000_000; 48])?;
-        let mut slots = vec![in heap; None; 3920]?;
-        let mut out = vec![in heap; OFF; 48]?;
+        let mut slots = [None; SLOTS];
+        let mut out = [OFF; 48];
         check_eq(best_gain(&fleet, 0, &row, &mut slots)?, 500_000_000_000)?;
         first_best(&fleet, 0, &row, &mut slots, &mut out)?;
-        check(out.len() == 48)?;
         check_eq(out[47].state, 79)?;
         check_eq(out[47].output, 500)
     }
