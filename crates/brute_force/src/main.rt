@@ -1,4 +1,6 @@
 // Small drawn fleets, with every schedule tried one by one and held against the searches' answers.
+#![tactic(auto)]
+
 use fleet::{
     Entry, Fleet, Periods, PriceRow, SLOTS, best_gain, check_schedule, first_best, supply,
 };

@@ -1,4 +1,6 @@
 // The settlement program. For now it settles a built-in day.
+#![tactic(auto)]
+
 mod pays;
 mod sample;
 

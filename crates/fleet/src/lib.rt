@@ -1,4 +1,5 @@
 // Fleets: what they answer, schedules and their gains, and the one search over all schedules.
+#![tactic(auto)]
 
 mod answers;
 mod fleets;

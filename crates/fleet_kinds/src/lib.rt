@@ -1,4 +1,6 @@
 // Fleets of their own: arc tables, and outages over any fleet.
+#![tactic(auto)]
+
 mod arc_table;
 mod outages;
 mod rows;

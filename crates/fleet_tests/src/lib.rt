@@ -1,4 +1,6 @@
 // Tests of the fleet layer: worked units, edges.
+#![tactic(auto)]
+
 mod days;
 
 use terms::Decline;

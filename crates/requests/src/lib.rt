@@ -1,4 +1,6 @@
 // A whole list of requests on a fresh docket.
+#![tactic(auto)]
+
 mod desk;
 mod making;
 mod request;

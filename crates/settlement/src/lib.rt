@@ -1,4 +1,6 @@
 // The docket of a day: its calls, its evidence and its verdict.
+#![tactic(auto)]
+
 mod declines;
 mod docket;
 mod sheet;

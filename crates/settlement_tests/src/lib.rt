@@ -1,4 +1,6 @@
 // Tests of the docket: a worked day, every decline, and what a call leaves.
+#![tactic(auto)]
+
 #[cfg(test)]
 mod calls;
 #[cfg(test)]

@@ -1,4 +1,6 @@
 // What all layers share: declines, with the pool's number of each cause, and bounds.
+#![tactic(auto)]
+
 mod decline;
 mod limits;
 

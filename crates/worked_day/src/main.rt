@@ -1,4 +1,6 @@
 // The settlement program. For now it settles a built-in day, from opening to verdict.
+#![tactic(auto)]
+
 mod sample;
 
 use anyhow::anyhow;
