@@ -144,7 +144,7 @@ int_scale = record {
   of = λ g q. g;
   zero = pos 0;
   add = ◌+ℤ◌;
-  at_most = le_z;
+  at_most = int_le;
   largest = pos 1000000000000;
   fits = λ k a. Near (k * 1000000000000) a;
 }

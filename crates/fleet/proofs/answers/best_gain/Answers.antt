@@ -8,7 +8,7 @@ use Rattle.fleet.proofs.answers.best_gain.Goals as goal
 pub returns-then-table-lt-SLOTS : goal.returns-then-table-lt-SLOTS
 returns-then-table-lt-SLOTS g c =
     let short = c.if-table-lt-SLOTS.true in
-    record { best = inl (λ room. omega arith, c.too-little-room.ensures); table = record { long = refl; untouched = λ _. refl }; law = best_gain_law }
+    record { best = inl (λ room. omega arith, c.too_little_room.ensures); table = record { long = refl; untouched = λ _. refl }; law = best_gain_law }
 
 pub returns-in-Some : goal.returns-in-Some
 returns-in-Some g c =
@@ -24,7 +24,7 @@ pub returns-in-None : goal.returns-in-None
 returns-in-None g c =
     let room = c.if-table-lt-SLOTS.false in
     record {
-      best = inr (room, none_allowed gain_scale _ _ _ c.in-None.ensures.is, c.no-schedule.ensures);
+      best = inr (room, none_allowed gain_scale _ _ _ c.in-None.ensures.is, c.no_schedule.ensures);
       table = record { long = c.best.auto.table; untouched = λ no_room. absurd (no_room room) };
       law = best_gain_law;
     }

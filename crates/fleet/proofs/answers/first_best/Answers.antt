@@ -12,15 +12,15 @@ returns-then-table-lt-SLOTS g c =
       | then-table-lt-SLOTS-via-then-table-lt-SLOTS w ↦ omega (arith, room.0, w.if-table-lt-SLOTS.true)
       | then-table-lt-SLOTS-via-else-table-lt-SLOTS+then-out-periods w ↦ omega (arith, room.1, w.if-out-periods.true, w.periods.ensures)
     ] in
-    record { first = (inl (none, c.too-little-room.ensures), refl); table = record { long = refl; untouched = λ _. refl }; law = first_law }
+    record { first = (inl (none, c.too_little_room.ensures), refl); table = record { long = refl; untouched = λ _. refl }; law = first_law }
 
-pub returns-in-default : goal.returns-in-default
-returns-in-default g c =
+pub returns-in_default : goal.returns-in_default
+returns-in_default g c =
     let is = c.periods.ensures in
     let wide = c.if-out-periods.false in
     let room : Room (length c.args.table.now) × (c.args.row.now.periods ≤ length c.args.out.now) = (c.if-table-lt-SLOTS.false, omega arith) in
     record {
-      first = (inr (room, none_allowed gain_scale _ _ _ c.in-default.ensures.is, c.no-schedule.ensures), refl);
+      first = (inr (room, none_allowed gain_scale _ _ _ c.in_default.ensures.is, c.no_schedule.ensures), refl);
       table = record { long = c.best.auto.table; untouched = λ no_room. absurd (no_room room) };
       law = first_law;
     }

@@ -13,23 +13,23 @@ returns-then-fewer-lt-SLOTS g c =
       | then-fewer-lt-SLOTS-via-then-fewer-lt-SLOTS w ↦ omega (arith, room.0, w.if-fewer-lt-SLOTS.true)
       | then-fewer-lt-SLOTS-via-else-fewer-lt-SLOTS+then-more-lt-SLOTS w ↦ omega (arith, room.1, w.if-more-lt-SLOTS.true)
     ] in
-    record { supply = inl (none, c.too-little-room.ensures); fewer = record { long = refl; untouched = λ _. refl }; more = record { long = refl; untouched = λ _. refl }; law = supply_law }
+    record { supply = inl (none, c.too_little_room.ensures); fewer = record { long = refl; untouched = λ _. refl }; more = record { long = refl; untouched = λ _. refl }; law = supply_law }
 
-pub returns-in-default : goal.returns-in-default
-returns-in-default g c =
+pub returns-in_default : goal.returns-in_default
+returns-in_default g c =
     let room : Room (length c.args.fewer.now) × Room (length c.args.more.now) = (c.if-fewer-lt-SLOTS.false, c.if-more-lt-SLOTS.false) in
     record {
-      supply = inr (room, none_allowed fewer_scale _ _ _ c.in-default.ensures.is, c.no-schedule.ensures);
+      supply = inr (room, none_allowed fewer_scale _ _ _ c.in_default.ensures.is, c.no_schedule.ensures);
       fewer = record { long = c.best.auto.table; untouched = λ no_room. absurd (no_room room) };
       more = record { long = refl; untouched = λ _. refl };
       law = supply_law;
     }
 
-pub returns-in-default-best : goal.returns-in-default-best
-returns-in-default-best g c =
+pub returns-in_default-best : goal.returns-in_default-best
+returns-in_default-best g c =
     let room : Room (length c.args.fewer.now) × Room (length c.args.more.now) = (c.if-fewer-lt-SLOTS.false, c.if-more-lt-SLOTS.false) in
     record {
-      supply = inr (room, none_allowed more_scale _ _ _ c.in-default-best.ensures.is, c.no-schedule-in-default-best.ensures);
+      supply = inr (room, none_allowed more_scale _ _ _ c.in_default-best.ensures.is, c.no_schedule-in_default-best.ensures);
       fewer = record { long = c.best.auto.table; untouched = λ no_room. absurd (no_room room) };
       more = record { long = c.best-2.auto.table; untouched = λ no_room. absurd (no_room room) };
       law = supply_law;

@@ -13,17 +13,17 @@ use Rattle.fleet.proofs.Checks.{going_next, going_bad, going_ends, going_stuck, 
 use Rattle.fleet.proofs.schedules.check_schedule.Goals as goal
 use Rattle.fleet.proofs.schedules.check_schedule.Goals.{After-cost-paid}
 
-pub returns-in-default : goal.returns-in-default
-returns-in-default g c =
+pub returns-in_default : goal.returns-in_default
+returns-in_default g c =
     let e = get_or c.args.schedule.now c.loop-step.step-index blank in
-    going_bad _ _ _ _ _ _ _ _ c.loop-step-test.true (λ h. holds_none e.output (subst (λ (o : Option Range). holds o e.output ≡ true) (sym c.in-default.ensures) h)) c.loop-step.invariant _ c.not-allowed.ensures
+    going_bad _ _ _ _ _ _ _ _ c.loop-step-test.true (λ h. holds_none e.output (subst (λ (o : Option Range). holds o e.output ≡ true) (sym c.in_default.ensures) h)) c.loop-step.invariant _ c.not_allowed.ensures
 
 pub returns-then-not-contains : goal.returns-then-not-contains
 returns-then-not-contains g c =
     let e = get_or c.args.schedule.now c.loop-step.step-index blank in
     let fits : SFits w32 e.output = search rules in
     let told = ap (among c.in-Some.range) (sym (to_z-of_z w32 e.output fits)) ∙ sym c.if-not-contains.ensures in
-    going_bad _ _ _ _ _ _ _ _ c.loop-step-test.true (λ h. both_ways _ told (subst (λ (o : Option Range). holds o e.output ≡ true) (sym c.in-Some.ensures) h)) c.loop-step.invariant _ c.not-allowed-then-not-contains.ensures
+    going_bad _ _ _ _ _ _ _ _ c.loop-step-test.true (λ h. both_ways _ told (subst (λ (o : Option Range). holds o e.output ≡ true) (sym c.in-Some.ensures) h)) c.loop-step.invariant _ c.not_allowed-then-not-contains.ensures
 
 -- the entry goes on, what it costs, and what bounds there are
 record Fits (g : Rattle.fleet.proofs.schedules.check_schedule.Given.Over) (c : goal.After-cost-paid g) : Type 0 where
@@ -58,17 +58,17 @@ cost_sum t c x lt h k = let all : Near 24000000000 (c +ℤ x) = record { low = o
 gain_sum : (t : ℕ) (c x : ℤ) → t < 48 → Near (t * 1000000000000) c → Near 1000000000000 x → SFits w64 (c +ℤ x)
 gain_sum t c x lt h k = let all : Near 48000000000000 (c +ℤ x) = record { low = omega (arith, ints); high = omega (arith, ints) } in fits_64 48000000000000 (c +ℤ x) (lit< tt) all
 
-pub overflow-add-cost : goal.overflow-add-cost
-overflow-add-cost g c =
+pub overflow_add-cost : goal.overflow_add-cost
+overflow_add-cost g c =
     let f = fits-here g c in
     let n32 = f.narrow in
     let n64 : SFits w64 c.cost-paid.result = fits_64 500000000 c.cost-paid.result (lit< tt) f.cheap in
-    let inv = rw (c.loop-step.cost-is, c.loop-step.gain_is) at c.loop-step.invariant in
+    let inv = rw (c.loop-step.cost-is, c.loop-step.gain-is) at c.loop-step.invariant in
     rw c.loop-step.cost-is (simp to_z-of_z (cost_sum c.loop-step.period c.loop-step.cost c.cost-paid.result f.within inv.cheap f.cheap))
 
-pub gain-of-gain-requires : goal.gain-of-gain-requires
-gain-of-gain-requires g c =
-    let f = fits-here g (goal.at.gain-of-gain-requires g c).After-cost-paid in
+pub gain_of-gain-requires : goal.gain_of-gain-requires
+gain_of-gain-requires g c =
+    let f = fits-here g (goal.at.gain_of-gain-requires g c).After-cost-paid in
     let priced = row_priced c.args.row.now in
     let near : Near 1000000000 c.numerator.result = subst (Near 1000000000) (sym c.numerator.ensures) (priced.each c.loop-step.period) in
     record {
@@ -78,12 +78,12 @@ gain-of-gain-requires g c =
       cost = near_32 500000000 c.cost-paid.result (lit< tt) f.cheap;
     }
 
-pub overflow-add-gain : goal.overflow-add-gain
-overflow-add-gain g c =
-    let f = fits-here g (goal.at.overflow-add-gain g c).After-cost-paid in
-    let n64 : SFits w64 c.gain-of-gain.result = fits_64 1000000000000 c.gain-of-gain.result (lit< tt) c.gain-of-gain.ensures.bounded in
-    let inv = rw (c.loop-step.cost-is, c.loop-step.gain_is) at c.loop-step.invariant in
-    rw c.loop-step.gain_is (simp to_z-of_z (gain_sum c.loop-step.period c.loop-step.gain c.gain-of-gain.result f.within inv.small c.gain-of-gain.ensures.bounded))
+pub overflow_add-gain : goal.overflow_add-gain
+overflow_add-gain g c =
+    let f = fits-here g (goal.at.overflow_add-gain g c).After-cost-paid in
+    let n64 : SFits w64 c.gain_of-gain.result = fits_64 1000000000000 c.gain_of-gain.result (lit< tt) c.gain_of-gain.ensures.bounded in
+    let inv = rw (c.loop-step.cost-is, c.loop-step.gain-is) at c.loop-step.invariant in
+    rw c.loop-step.gain-is (simp to_z-of_z (gain_sum c.loop-step.period c.loop-step.gain c.gain_of-gain.result f.within inv.small c.gain_of-gain.ensures.bounded))
 
 pub loop-step-preserved : goal.loop-step-preserved
 loop-step-preserved g c =
@@ -93,22 +93,22 @@ loop-step-preserved g c =
     let sp = (g.met.F.Fleet.sound c.args.fleet.now).each c.args.unit in
     let r = prices_of c.args.row.now in
     let t = c.loop-step.period in
-    let small = c.gain-of-gain.ensures.bounded in
+    let small = c.gain_of-gain.ensures.bounded in
     let fo : SFits w32 e.output = f.output in
     let fc : SFits w32 c.cost-paid.result = f.narrow in
     let fd : SFits w64 c.cost-paid.result = fits_64 500000000 c.cost-paid.result (lit< tt) f.cheap in
-    let fg : SFits w64 c.gain-of-gain.result = fits_64 1000000000000 c.gain-of-gain.result (lit< tt) small in
+    let fg : SFits w64 c.gain_of-gain.result = fits_64 1000000000000 c.gain_of-gain.result (lit< tt) small in
     let fn : SFits w32 c.numerator.result = search rules in
-    let inv = rw (c.loop-step.cost-is, c.loop-step.gain_is) at c.loop-step.invariant in
+    let inv = rw (c.loop-step.cost-is, c.loop-step.gain-is) at c.loop-step.invariant in
     let cs : SFits w64 (c.loop-step.cost +ℤ c.cost-paid.result) = cost_sum t c.loop-step.cost c.cost-paid.result f.within inv.cheap f.cheap in
-    let gs : SFits w64 (c.loop-step.gain +ℤ c.gain-of-gain.result) = gain_sum t c.loop-step.gain c.gain-of-gain.result f.within inv.small small in
+    let gs : SFits w64 (c.loop-step.gain +ℤ c.gain_of-gain.result) = gain_sum t c.loop-step.gain c.gain_of-gain.result f.within inv.small small in
     let paid = simp to_z-of_z at c.cost-paid.ensures in
-    let gain = simp to_z-of_z at c.gain-of-gain.ensures.gain in
-    let whole = gain_entry p r t c.loop-step.state e.state e.output c.numerator.result c.cost-paid.result c.gain-of-gain.result c.over.result c.numerator.ensures c.over.ensures paid gain in
-    rw (c.loop-step.cost-is, c.loop-step.gain_is) (simp to_z-of_z (going_next p r c.args.schedule.now sp c.loop-step.step-index t c.loop-step.state c.loop-step.cost c.loop-step.gain c.cost-paid.result c.gain-of-gain.result c.loop-step-test.true f.goes paid whole f.cheap small inv))
+    let gain = simp to_z-of_z at c.gain_of-gain.ensures.gain in
+    let whole = gain_entry p r t c.loop-step.state e.state e.output c.numerator.result c.cost-paid.result c.gain_of-gain.result c.over.result c.numerator.ensures c.over.ensures paid gain in
+    rw (c.loop-step.cost-is, c.loop-step.gain-is) (simp to_z-of_z (going_next p r c.args.schedule.now sp c.loop-step.step-index t c.loop-step.state c.loop-step.cost c.loop-step.gain c.cost-paid.result c.gain_of-gain.result c.loop-step-test.true f.goes paid whole f.cheap small inv))
 
-pub returns-then-may-end : goal.returns-then-may-end
-returns-then-may-end g c = going_ends _ _ _ _ _ _ _ _ c.loop-step-test.false (sym c.may-end.ensures ∙ c.if-may-end.true) c.loop-step.invariant
+pub returns-then-may_end : goal.returns-then-may_end
+returns-then-may_end g c = going_ends _ _ _ _ _ _ _ _ c.loop-step-test.false (sym c.may_end.ensures ∙ c.if-may_end.true) c.loop-step.invariant
 
-pub returns-else-may-end : goal.returns-else-may-end
-returns-else-may-end g c = going_stuck _ _ _ _ _ _ _ _ c.loop-step-test.false (sym c.may-end.ensures ∙ c.if-may-end.false) c.loop-step.invariant _ c.not-allowed-else-may-end.ensures
+pub returns-else-may_end : goal.returns-else-may_end
+returns-else-may_end g c = going_stuck _ _ _ _ _ _ _ _ c.loop-step-test.false (sym c.may_end.ensures ∙ c.if-may_end.false) c.loop-step.invariant _ c.not_allowed-else-may_end.ensures

@@ -4,8 +4,8 @@ use Rattle.terms.proofs.Bounds.{fits_64, near_mul, near_pos}
 use Rattle.fleet.proofs.RowFacts.{near_gain}
 use Rattle.fleet.proofs.schedules.gain_of.Goals as goal
 
-pub overflow-sub-result : goal.overflow-sub-result
-overflow-sub-result c =
+pub overflow_sub-result : goal.overflow_sub-result
+overflow_sub-result c =
     let n = c.args.numerator in
     let q = c.args.output in
     let d = c.args.over in
@@ -40,8 +40,8 @@ returns c =
     let all : SFits w64 ((n *ℤ q) -ℤ (pos d *ℤ k)) = fits_64 1000000000000 ((n *ℤ q) -ℤ (pos d *ℤ k)) (lit< tt) near in
     record { gain = simp (to_z-of_z, to_z_pos); bounded = simp (to_z-of_z, to_z_pos) near }
 
-pub overflow-mul-result-2 : goal.overflow-mul-result-2
-overflow-mul-result-2 c =
+pub overflow_mul-result-2 : goal.overflow_mul-result-2
+overflow_mul-result-2 c =
     let d = c.args.over in
     let k = c.args.cost in
     let k32 : SFits w32 k = c.ranges.cost in

@@ -4,13 +4,13 @@ use Rattle.fleet.proofs.RowFacts.{row_priced}
 use Rattle.fleet.proofs.Steps.{via_no_rest, via_best, togo_fits}
 use Rattle.fleet.proofs.search.best_arc.Goals as goal
 
-pub returns-in-default : goal.returns-in-default
-returns-in-default g c =
+pub returns-in_default : goal.returns-in_default
+returns-in_default g c =
     let sp = (g.met.F.Fleet.sound c.args.fleet.now).each c.args.unit in
-    via_no_rest g.met.S.Score.lawful _ sp _ _ _ _ _ (rw c.in-default.is at c.requires.next)
+    via_no_rest g.met.S.Score.lawful _ sp _ _ _ _ _ (rw c.in_default.is at c.requires.next)
 
-pub best-output-requires : goal.best-output-requires
-best-output-requires g c =
+pub best_output-requires : goal.best_output-requires
+best_output-requires g c =
     let sp = (g.met.F.Fleet.sound c.args.fleet.now).each c.args.unit in
     let row = rw c.in-Some.is at c.requires.next in
     record {
@@ -22,4 +22,4 @@ pub returns : goal.returns
 returns g c =
     let sp = (g.met.F.Fleet.sound c.args.fleet.now).each c.args.unit in
     let row = rw c.in-Some.is at c.requires.next in
-    via_best g.met.S.Score.lawful _ sp _ _ _ _ _ _ _ row (rw c.in-Some-arc.ensures at c.best-output.ensures)
+    via_best g.met.S.Score.lawful _ sp _ _ _ _ _ _ _ row (rw c.in-Some-arc.ensures at c.best_output.ensures)

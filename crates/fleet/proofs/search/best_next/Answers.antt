@@ -2,10 +2,10 @@ use Rattle.std.proofs.Common.{◌+◌, ◌*◌, ◌<◌, length, None, arith}
 use Rattle.std.proofs.lemmas.List.{get_or_read}
 use Rattle.fleet.proofs.Steps.{upto_less, upto_more, upto_all}
 use Rattle.fleet.proofs.search.best_next.Goals as goal
-use Rattle.fleet.proofs.search.best_next.Goals.{in-Some, in-default}
+use Rattle.fleet.proofs.search.best_next.Goals.{in-Some, in_default}
 
-pub best-arc-requires : goal.best-arc-requires
-best-arc-requires g c =
+pub best_arc-requires : goal.best_arc-requires
+best_arc-requires g c =
     let sp = (g.met.F.Fleet.sound c.args.fleet.now).each c.args.unit in
     let few = sp.few_states in
     let all = c.states-to-end.ensures in
@@ -16,9 +16,9 @@ best-arc-requires g c =
 pub loop-to-preserved : goal.loop-to-preserved
 loop-to-preserved g c =
     let sp = (g.met.F.Fleet.sound c.args.fleet.now).each c.args.unit in
-    elim c.match-best-arc.branch [
-      | in-Some w ↦ rw (w.best_is, w.better-best.ensures) (upto_more g.met.S.Score.lawful _ sp _ _ _ _ _ _ _ w.in-Some.ensures c.loop-to.invariant)
-      | in-default w ↦ rw w.best_is (upto_less g.met.S.Score.lawful _ sp _ _ _ _ _ _ w.in-default.ensures c.loop-to.invariant)
+    elim c.match-best_arc.branch [
+      | in-Some w ↦ rw (w.best-is, w.better-best.ensures) (upto_more g.met.S.Score.lawful _ sp _ _ _ _ _ _ _ w.in-Some.ensures c.loop-to.invariant)
+      | in_default w ↦ rw w.best-is (upto_less g.met.S.Score.lawful _ sp _ _ _ _ _ _ w.in_default.ensures c.loop-to.invariant)
     ]
 
 pub returns : goal.returns

@@ -6,8 +6,8 @@ use Rattle.fleet.specs.Rows.{prices_of}
 use Rattle.fleet.proofs.RowFacts.{row_priced, gain_entry}
 use Rattle.fleet.proofs.search.entry_score.Goals as goal
 
-pub gain-of-requires : goal.gain-of-requires
-gain-of-requires g c =
+pub gain_of-requires : goal.gain_of-requires
+gain_of-requires g c =
     let priced = row_priced c.args.row.now in
     let cheap : Near 500000000 c.cost-cost.result = subst (Near 500000000) (sym c.cost-cost.ensures) (((g.met.F.Fleet.sound c.args.fleet.now).each c.args.unit).costs c.args.period c.args.from c.args.to _) in
     let near : Near 1000000000 c.numerator.result = subst (Near 1000000000) (sym c.numerator.ensures) (priced.each c.args.period) in
@@ -19,7 +19,7 @@ gain-of-requires g c =
     }
 
 pub of-requires : goal.of-requires
-of-requires g c = g.met.S.Score.lawful.fits_of _ _ (record { gain = near_64 1000000000000 c.gain-of.result (lit< tt) c.gain-of.ensures.bounded; lots = near_32 500 c.args.output (lit< tt) c.requires })
+of-requires g c = g.met.S.Score.lawful.fits_of _ _ (record { gain = near_64 1000000000000 c.gain_of.result (lit< tt) c.gain_of.ensures.bounded; lots = near_32 500 c.args.output (lit< tt) c.requires })
 
 pub returns : goal.returns
 returns g c =
@@ -29,12 +29,12 @@ returns g c =
     let fo : SFits w32 c.args.output = c.ranges.output in
     let fc : SFits w32 c.cost-cost.result = fits_32 500000000 c.cost-cost.result (lit< tt) cheap in
     let fn : SFits w32 c.numerator.result = fits_32 1000000000 c.numerator.result (lit< tt) near in
-    let fg : SFits w64 c.gain-of.result = fits_64 1000000000000 c.gain-of.result (lit< tt) c.gain-of.ensures.bounded in
+    let fg : SFits w64 c.gain_of.result = fits_64 1000000000000 c.gain_of.result (lit< tt) c.gain_of.ensures.bounded in
     let made = simp to_z-of_z at c.of.ensures in
-    let gain = simp to_z-of_z at c.gain-of.ensures.gain in
+    let gain = simp to_z-of_z at c.gain_of.ensures.gain in
     let paid = simp to_z-of_z at c.cost-cost.ensures in
-    let whole = gain_entry ((g.F.Fleet.meaning c.args.fleet.now).model c.args.unit) (prices_of c.args.row.now) c.args.period c.args.from c.args.to c.args.output c.numerator.result c.cost-cost.result c.gain-of.result c.over.result c.numerator.ensures c.over.ensures paid gain in
+    let whole = gain_entry ((g.F.Fleet.meaning c.args.fleet.now).model c.args.unit) (prices_of c.args.row.now) c.args.period c.args.from c.args.to c.args.output c.numerator.result c.cost-cost.result c.gain_of.result c.over.result c.numerator.ensures c.over.ensures paid gain in
     record {
       is = made ∙ ap (λ x. g.S.Score.scale.of x c.args.output) whole;
-      fits = rw c.of.ensures (g.met.S.Score.lawful.fits_of _ _ (record { gain = near_64 1000000000000 c.gain-of.result (lit< tt) c.gain-of.ensures.bounded; lots = near_32 500 c.args.output (lit< tt) c.requires }));
+      fits = rw c.of.ensures (g.met.S.Score.lawful.fits_of _ _ (record { gain = near_64 1000000000000 c.gain_of.result (lit< tt) c.gain_of.ensures.bounded; lots = near_32 500 c.args.output (lit< tt) c.requires }));
     }

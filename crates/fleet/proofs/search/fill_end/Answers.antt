@@ -4,10 +4,10 @@ use Rattle.fleet.specs.Rows.{prices_of}
 use Rattle.fleet.proofs.Slots.{below_next}
 use Rattle.fleet.proofs.Steps.{end_yes, end_no}
 use Rattle.fleet.proofs.search.fill_end.Goals as goal
-use Rattle.fleet.proofs.search.fill_end.Goals.{then-may-end, else-may-end}
+use Rattle.fleet.proofs.search.fill_end.Goals.{then-may_end, else-may_end}
 
-pub offset-bounds-table-period : goal.offset-bounds-table-period
-offset-bounds-table-period g c =
+pub offset_bounds-table-period : goal.offset_bounds-table-period
+offset_bounds-table-period g c =
     let few = ((g.met.F.Fleet.sound c.args.fleet.now).each c.args.unit).few_states in
     let all = c.states-state-end.ensures in
     let end = c.periods-period.ensures in
@@ -24,9 +24,9 @@ loop-state-preserved g c =
     let short = c.args.row.now.short in
     let h : c.periods-period.result * 80 + c.loop-state.state < length c.loop-state.table = omega arith in
     below_next g.S.Score.scale _ _ _ _ _ _ _ h
-    (elim c.if-may-end.branch [
-      | then-may-end w ↦ rw (w.table-is, w.zero.ensures) (end_yes g.met.S.Score.lawful _ sp _ _ _ _ end (sym c.may-end.ensures ∙ w.if-may-end.true))
-      | else-may-end w ↦ rw w.table-is (end_no g.met.S.Score.lawful _ sp _ _ _ _ end (sym c.may-end.ensures ∙ w.if-may-end.false))
+    (elim c.if-may_end.branch [
+      | then-may_end w ↦ rw (w.table-is, w.zero.ensures) (end_yes g.met.S.Score.lawful _ sp _ _ _ _ end (sym c.may_end.ensures ∙ w.if-may_end.true))
+      | else-may_end w ↦ rw w.table-is (end_no g.met.S.Score.lawful _ sp _ _ _ _ end (sym c.may_end.ensures ∙ w.if-may_end.false))
     ])
     c.loop-state.invariant
 

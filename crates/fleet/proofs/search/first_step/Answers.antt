@@ -8,20 +8,20 @@ use Rattle.fleet.proofs.RowFacts.{row_priced}
 use Rattle.fleet.proofs.Steps.{togo_fits}
 use Rattle.fleet.proofs.Firsts.{below_no_rest, below_no_arc, under_start, under_next, below_next, step_found, step_none}
 use Rattle.fleet.proofs.search.first_step.Goals as goal
-use Rattle.fleet.proofs.search.first_step.Goals.{else-loop-output-test, then-loop-output-test+else-at-most+else·-output-output·end}
+use Rattle.fleet.proofs.search.first_step.Goals.{else-loop-output-test, then-loop-output-test+else-at_most+else-output-output-end}
 
-pub search-preserved-in-default : goal.search-preserved-in-default
-search-preserved-in-default g c =
+pub search-preserved-in_default : goal.search-preserved-in_default
+search-preserved-in_default g c =
     let sp = (g.met.F.Fleet.sound c.args.fleet.now).each c.args.unit in
     let few = sp.few_states in
     let all = c.states-to-end.ensures in
-    let next = slot_best g.S.Score.scale _ _ _ _ c.search.to c.args.table.now _ None c.requires.next (omega arith) (omega arith) c.index-table-period.is c.in-default.is in
+    let next = slot_best g.S.Score.scale _ _ _ _ c.search.to c.args.table.now _ None c.requires.next (omega arith) (omega arith) c.index-table-period.is c.in_default.is in
     below_no_rest g.met.S.Score.lawful _ sp _ _ _ _ _ c.search.to next c.search.invariant
 
-pub search-preserved-in-default-arc : goal.search-preserved-in-default-arc
-search-preserved-in-default-arc g c =
+pub search-preserved-in_default-arc : goal.search-preserved-in_default-arc
+search-preserved-in_default-arc g c =
     let sp = (g.met.F.Fleet.sound c.args.fleet.now).each c.args.unit in
-    below_no_arc g.met.S.Score.lawful _ sp _ _ _ _ _ c.search.to c.in-default-arc.ensures c.search.invariant
+    below_no_arc g.met.S.Score.lawful _ sp _ _ _ _ _ c.search.to c.in_default-arc.ensures c.search.invariant
 
 pub loop-output-init : goal.loop-output-init
 loop-output-init g c =
@@ -29,8 +29,8 @@ loop-output-init g c =
     let near : SoundArc (Some c.in-Some-arc.range) = subst SoundArc (sym c.in-Some-arc.ensures) (sp.arcs c.args.period c.args.from c.search.to) in
     (omega (arith, ints), omega (arith, ints), under_start g.met.S.Score.lawful _ sp _ _ _ _ _ c.search.to c.in-Some-arc.range _ (omega (arith, ints)) c.in-Some-arc.ensures)
 
-pub entry-score-score-requires : goal.entry-score-score-requires
-entry-score-score-requires g c =
+pub entry_score-score-requires : goal.entry_score-score-requires
+entry_score-score-requires g c =
     let sp = (g.met.F.Fleet.sound c.args.fleet.now).each c.args.unit in
     let near : SoundArc (Some c.in-Some-arc.range) = subst SoundArc (sym c.in-Some-arc.ensures) (sp.arcs c.args.period c.args.from c.search.to) in
     record { low = omega (arith, ints); high = omega (arith, ints) }
@@ -42,7 +42,7 @@ plus-requires g c =
     let all = c.states-to-end.ensures in
     let next = slot_best g.S.Score.scale _ _ _ _ c.search.to c.args.table.now _ (Some c.in-Some.rest) c.requires.next (omega arith) (omega arith) c.index-table-period.is c.in-Some.is in
     let f = togo_fits g.met.S.Score.lawful _ sp _ (row_priced c.args.row.now) _ _ _ _ c.args.row.now.short (omega arith) next.0 in
-    (f.0, f.1, c.entry-score-score.ensures.fits, f.2)
+    (f.0, f.1, c.entry_score-score.ensures.fits, f.2)
 
 pub loop-output-preserved : goal.loop-output-preserved
 loop-output-preserved g c =
@@ -51,8 +51,8 @@ loop-output-preserved g c =
     let all = c.states-to-end.ensures in
     let near : SoundArc (Some c.in-Some-arc.range) = subst SoundArc (sym c.in-Some-arc.ensures) (sp.arcs c.args.period c.args.from c.search.to) in
     let next = slot_best g.S.Score.scale _ _ _ _ c.search.to c.args.table.now _ (Some c.in-Some.rest) c.requires.next (omega arith) (omega arith) c.index-table-period.is c.in-Some.is in
-    let sum = c.plus.ensures ∙ ap (λ e. g.S.Score.scale.add e c.in-Some.rest) c.entry-score-score.ensures.is in
-    let less = sym (c.lots_at_most.ensures ∙ ap (g.S.Score.scale.at_most c.args.best) sum) ∙ c.if-at-most.false in
+    let sum = c.plus.ensures ∙ ap (λ e. g.S.Score.scale.add e c.in-Some.rest) c.entry_score-score.ensures.is in
+    let less = sym (c.at_most.ensures ∙ ap (g.S.Score.scale.at_most c.args.best) sum) ∙ c.if-at_most.false in
     (omega (arith, ints), grind (arith, ints), under_next g.met.S.Score.lawful _ sp _ _ _ _ _ c.search.to _ _ _ (omega (arith, ints)) next less c.loop-output.invariant.2)
 
 pub search-preserved : goal.search-preserved
@@ -64,9 +64,9 @@ search-preserved g c =
     let next = slot_best g.S.Score.scale _ _ _ _ c.search.to c.args.table.now _ (Some c.in-Some.rest) c.requires.next (omega arith) (omega arith) c.index-table-period.is c.in-Some.is in
     elim c.loop-output-test.branch [
       | else-loop-output-test w ↦ let left = w.loop-output-test.false in absurd (grind (arith, ints))
-      | then-loop-output-test+else-at-most+else·-output-output·end w ↦
-          let sum = w.plus.ensures ∙ ap (λ e. g.S.Score.scale.add e c.in-Some.rest) w.entry-score-score.ensures.is in
-          let less = sym (w.lots_at_most.ensures ∙ ap (g.S.Score.scale.at_most c.args.best) sum) ∙ w.if-at-most.false in
+      | then-loop-output-test+else-at_most+else-output-output-end w ↦
+          let sum = w.plus.ensures ∙ ap (λ e. g.S.Score.scale.add e c.in-Some.rest) w.entry_score-score.ensures.is in
+          let less = sym (w.at_most.ensures ∙ ap (g.S.Score.scale.at_most c.args.best) sum) ∙ w.if-at_most.false in
           let under = under_next g.met.S.Score.lawful _ sp _ _ _ _ _ c.search.to _ (c.in-Some-arc.range.hi +ℤ pos 1) _ (grind (arith, ints)) next less c.loop-output.invariant.2 in
           below_next g.met.S.Score.lawful _ sp _ _ _ _ _ c.search.to c.in-Some-arc.range _ (omega (arith, ints)) c.in-Some-arc.ensures under c.search.invariant
     ]
@@ -77,15 +77,15 @@ returns-after-search g c =
     let all = c.states-to-end.ensures in
     absurd (step_none g.met.S.Score.lawful _ sp _ _ _ _ _ c.search.to (omega arith) c.requires.within c.requires.best c.search.invariant)
 
-pub returns-then-at-most : goal.returns-then-at-most
-returns-then-at-most g c =
+pub returns-then-at_most : goal.returns-then-at_most
+returns-then-at_most g c =
     let sp = (g.met.F.Fleet.sound c.args.fleet.now).each c.args.unit in
     let few = sp.few_states in
     let all = c.states-to-end.ensures in
     let near : SoundArc (Some c.in-Some-arc.range) = subst SoundArc (sym c.in-Some-arc.ensures) (sp.arcs c.args.period c.args.from c.search.to) in
     let next = slot_best g.S.Score.scale _ _ _ _ c.search.to c.args.table.now _ (Some c.in-Some.rest) c.requires.next (omega arith) (omega arith) c.index-table-period.is c.in-Some.is in
-    let sum = c.plus.ensures ∙ ap (λ e. g.S.Score.scale.add e c.in-Some.rest) c.entry-score-score.ensures.is in
-    let more = sym (c.lots_at_most.ensures ∙ ap (g.S.Score.scale.at_most c.args.best) sum) ∙ c.if-at-most.true in
+    let sum = c.plus.ensures ∙ ap (λ e. g.S.Score.scale.add e c.in-Some.rest) c.entry_score-score.ensures.is in
+    let more = sym (c.at_most.ensures ∙ ap (g.S.Score.scale.at_most c.args.best) sum) ∙ c.if-at_most.true in
     let at : to_z w32 (of_z w32 c.in-Some-arc.range.lo) ≤ℤ c.loop-output.output = omega (arith, ints) in
     let low : c.in-Some-arc.range.lo ≤ℤ c.loop-output.output = omega (arith, ints) in
     let high : c.loop-output.output ≤ℤ c.in-Some-arc.range.hi = omega (arith, ints) in
