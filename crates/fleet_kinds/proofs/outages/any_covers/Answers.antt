@@ -8,15 +8,15 @@ use Rattle.fleet_kinds.proofs.outages.any_covers.Goals as goal
 abbrev blank : Outage
 blank = record { unit = 0; first = 0; last = 0 }
 
-pub returns-then-does-cover : goal.returns-then-does-cover
-returns-then-does-cover c =
+pub returns-then-does_cover : goal.returns-then-does_cover
+returns-then-does_cover c =
     let any : List Outage → Bool = λ os. out os c.args.unit c.args.period in
-    sym (at_drop_more any c.args.list.now c.loop-outage.outage-index blank c.loop-outage-test.true ∙ cond-true _ _ _ (sym c.if-does-cover.ensures)) ∙ c.loop-outage.invariant
+    sym (at_drop_more any c.args.list.now c.loop-outage.outage-index blank c.loop-outage-test.true ∙ cond-true _ _ _ (sym c.if-does_cover.ensures)) ∙ c.loop-outage.invariant
 
 pub loop-outage-preserved : goal.loop-outage-preserved
 loop-outage-preserved c =
     let any : List Outage → Bool = λ os. out os c.args.unit c.args.period in
-    sym (at_drop_more any c.args.list.now c.loop-outage.outage-index blank c.loop-outage-test.true ∙ cond-false _ _ _ (sym c.if-does-cover.ensures)) ∙ c.loop-outage.invariant
+    sym (at_drop_more any c.args.list.now c.loop-outage.outage-index blank c.loop-outage-test.true ∙ cond-false _ _ _ (sym c.if-does_cover.ensures)) ∙ c.loop-outage.invariant
 
 pub returns : goal.returns
 returns c =

@@ -7,8 +7,8 @@ use Rattle.fleet_kinds.specs.ArcTables.{row_range}
 use Rattle.fleet_kinds.specs.Heeded.{row_heeded}
 use Rattle.fleet_kinds.proofs.arc_table.ArcTableFleet.cost.Goals as goal
 
-pub cost-of-requires : goal.cost-of-requires
-cost-of-requires c =
+pub cost_of-requires : goal.cost_of-requires
+cost_of-requires c =
     let r = c.in-Some.row in
     let h = row_heeded (min c.args.self.now.count 64) (vec_items c.args.self.now.rows) c.args.unit c.args.period c.args.from c.args.to r (sym c.in-Some.ensures) in
     let fq : SFits w32 c.args.output = c.ranges.output in
