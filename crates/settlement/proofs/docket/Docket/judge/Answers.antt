@@ -12,20 +12,20 @@ use Rattle.settlement.proofs.Never.{never_31}
 use Rattle.settlement.proofs.OneFault.{one_fault}
 use Rattle.settlement.proofs.docket.Docket.judge.Goals as goal
 
-pub returns-in-err-rows : goal.returns-in-err-rows
-returns-in-err-rows g c =
+pub returns-in_err-rows : goal.returns-in_err-rows
+returns-in_err-rows g c =
     let mean = g.F.Fleet.meaning in
     let d = c.args.self.now in
     let m = mean d.fleet in
     let T = d.periods.count in
     let W = d.weight in
     let old = c.args.pays.now in
-    let p = err_from_is_err_and c.from-residual.result c.from-residual.ensures.1 in
-    let e = c.in-err-rows.field-0.0 in
+    let p = err_from_is_err_and c.from_residual.result c.from_residual.ensures.1 in
+    let e = c.in_err-rows.field-0.0 in
     rw (p.1, p.2)
     (record {
       goes = asked mean d (judge (length old)) (λ m T W l. Judges m T W l old old (Err e)) (λ l. refl)
-          (λ cs f. let l = ledger m T W cs in judge_held m T W l old e (held_21 m T W l d.sheet.stage (length old) e f.stage_is c.in-err-rows.ensures));
+          (λ cs f. let l = ledger m T W cs in judge_held m T W l old e (held_21 m T W l d.sheet.stage (length old) e f.stage_is c.in_err-rows.ensures));
       kept = refl {a = old};
       one = one_fault;
       never = never_31;
@@ -45,7 +45,7 @@ returns-then-pays-units g c =
     let short : length old < m.units = omega (arith, c.units-units.ensures, c.if-pays-units.true) in
     record {
       goes = asked mean d (judge (length old)) (λ m T W l. Judges m T W l old old (Err e)) (λ l. refl)
-          (λ cs f. let l = ledger m T W cs in judge_held m T W l old e (held_30 m T W l d.sheet.stage c.in-ok-rows.rows (length old) e f.stage_is c.in-ok-rows.ensures short (docket_says e TooLittleRoom 0 c.declined.ensures refl)));
+          (λ cs f. let l = ledger m T W cs in judge_held m T W l old e (held_30 m T W l d.sheet.stage c.in_ok-rows.rows (length old) e f.stage_is c.in_ok-rows.ensures short (docket_says e TooLittleRoom 0 c.declined.ensures refl)));
       kept = refl {a = old};
       one = one_fault;
       never = never_31;
@@ -53,19 +53,19 @@ returns-then-pays-units g c =
       checks = check_law;
     }
 
-pub returns-in-err-judgement : goal.returns-in-err-judgement
-returns-in-err-judgement g c =
+pub returns-in_err-judgement : goal.returns-in_err-judgement
+returns-in_err-judgement g c =
     let mean = g.F.Fleet.meaning in
     let d = c.args.self.now in
     let m = mean d.fleet in
     let old = c.args.pays.now in
-    let p = err_from_is_err_and c.from-residual-in-err-judgement.result c.from-residual-in-err-judgement.ensures.1 in
-    let e = c.in-err-judgement.field-0.0 in
+    let p = err_from_is_err_and c.from_residual-in_err-judgement.result c.from_residual-in_err-judgement.ensures.1 in
+    let e = c.in_err-judgement.field-0.0 in
     let fits : m.units ≤ length old = omega (arith, c.units-units.ensures, c.if-pays-units.false) in
     rw (p.1, p.2)
     (record {
       goes = asked mean d (judge (length old)) (λ m T W l. Judges m T W l old old (Err e)) (λ l. refl)
-          (λ cs f. judge_wrong m (g.met.F.Fleet.sound d.fleet) d.periods.count d.weight d.some d.most cs d.sheet f c.in-ok-rows.rows c.in-ok-rows.ensures old fits e c.in-err-judgement.ensures);
+          (λ cs f. judge_wrong m (g.met.F.Fleet.sound d.fleet) d.periods.count d.weight d.some d.most cs d.sheet f c.in_ok-rows.rows c.in_ok-rows.ensures old fits e c.in_err-judgement.ensures);
       kept = refl {a = old};
       one = one_fault;
       never = never_31;
@@ -79,17 +79,17 @@ returns g c =
     let d = c.args.self.now in
     let m = mean d.fleet in
     let old = c.args.pays.now in
-    let new = c.write-pays.new.pays in
-    let j = c.in-ok-judgement.judgement in
-    let v = c.in-ok-judgement.ensures in
-    let w = c.write-pays.ensures in
+    let new = c.write_pays.new.pays in
+    let j = c.in_ok-judgement.judgement in
+    let v = c.in_ok-judgement.ensures in
+    let w = c.write_pays.ensures in
     let n = c.units-units.ensures in
     let fits : m.units ≤ length old = omega (arith, n, c.if-pays-units.false) in
     let each : (u : ℕ) → u < m.units → get_or new u (pos 0) ≡ pay_at (get_or d.sheet.units u None) = λ u lt. w.each u (omega (arith, n, lt)) in
     let past : drop m.units new ≡ drop m.units old = rw n at w.past in
     record {
       goes = asked mean d (judge (length old)) (λ m T W l. Judges m T W l old new (Ok j)) (λ l. refl)
-          (λ cs f. judged m (g.met.F.Fleet.sound d.fleet) d.periods.count d.weight d.some d.most cs d.sheet f c.in-ok-rows.rows c.in-ok-rows.ensures old fits new j v.0 v.1 v.2 v.3 v.4 each w.long past);
+          (λ cs f. judged m (g.met.F.Fleet.sound d.fleet) d.periods.count d.weight d.some d.most cs d.sheet f c.in_ok-rows.rows c.in_ok-rows.ensures old fits new j v.0 v.1 v.2 v.3 v.4 each w.long past);
       kept = tt;
       one = one_fault;
       never = never_31;

@@ -10,10 +10,10 @@ returns-then-units-eq0 g c =
     let m = g.F.Fleet.meaning c.args.fleet in
     ((record { number = 11; place = 0 }, open_11 m c.args.periods c.args.weight (sym c.units.ensures ∙ c.if-units-eq0.true), subst (Says Fleet 11 0) (sym c.declined-decline.ensures) (record { layer = refl; number = refl; place = refl })), refl)
 
-pub returns-in-default : goal.returns-in-default
-returns-in-default g c =
+pub returns-in_default : goal.returns-in_default
+returns-in_default g c =
     let m = g.F.Fleet.meaning c.args.fleet in
-    ((record { number = 12; place = 0 }, open_12 m c.args.periods c.args.weight (λ e. c.if-units-eq0.false (c.units.ensures ∙ e)) (inl c.in-default.ensures), subst (Says Fleet 12 0) (sym c.declined-decline-in-default.ensures) (record { layer = refl; number = refl; place = refl })), refl)
+    ((record { number = 12; place = 0 }, open_12 m c.args.periods c.args.weight (λ e. c.if-units-eq0.false (c.units.ensures ∙ e)) (inl c.in_default.ensures), subst (Says Fleet 12 0) (sym c.declined-decline-in_default.ensures) (record { layer = refl; number = refl; place = refl })), refl)
 
 pub returns-then-weight-lt1 : goal.returns-then-weight-lt1
 returns-then-weight-lt1 g c =

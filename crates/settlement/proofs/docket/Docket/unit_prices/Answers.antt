@@ -4,5 +4,5 @@ use Rattle.settlement.proofs.docket.Docket.unit_prices.Goals as goal
 
 pub returns : goal.returns
 returns g c =
-    let at = rows_yes c.args.self.now.sheet.stage c.args.unit c.in-ok-rows.rows c.in-ok-rows.ensures in
-    ((c.in-ok-rows.rows, at, refl), omega (arith, c.if-unit-units.false, c.units.ensures))
+    let at = rows_yes c.args.self.now.sheet.stage c.args.unit c.in_ok-rows.rows c.in_ok-rows.ensures in
+    ((c.in_ok-rows.rows, at, refl), omega (arith, c.if-unit-units.false, c.units.ensures))

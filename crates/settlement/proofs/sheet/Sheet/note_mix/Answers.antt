@@ -66,8 +66,8 @@ widened-gap-requires c =
     let lack = pos c.args.weight *ℤ (c.args.standing.best -ℤ c.args.gain) in
     rw (to_z-of_z w64 s.gap fg, lack_is c) (near_more (96000000000000 * n) 6144000000000000000 (s.gap +ℤ lack) (omega arith) (near_test (96000000000000 * n) (s.gap +ℤ lack) (gap_near c (s.gap +ℤ lack) refl)))
 
-pub add-lots-requires : goal.add-lots-requires
-add-lots-requires c =
+pub add_lots-requires : goal.add_lots-requires
+add_lots-requires c =
     let s = c.args.self.now in
     let few = weight_most s.units s.long s.small in
     let light = c.requires.light in
@@ -90,10 +90,10 @@ gap_is c lack =
     let h = c.widened-gap.ensures in
     to_z-of_z w64 c.widened-gap.result fw ∙ (rw (to_z-of_z w64 s.gap fg, lack) at h)
 
-pub invariant-of-self : goal.invariant-of-self
+pub invariant_of-self : goal.invariant_of-self
 unfolding heavier_standing
-invariant-of-self c =
-    let d = (goal.at.invariant-of-self c).After-lacking in
+invariant_of-self c =
+    let d = (goal.at.invariant_of-self c).After-lacking in
     let s = c.args.self.now in
     let u = c.args.unit in
     let w = c.args.weight in
@@ -101,19 +101,14 @@ invariant-of-self c =
     let b = c.heavier.result in
     let lt = within d in
     let is : b ≡ heavier_standing d = heavier_is c in
-    let fine = subst (λ (x : Standing). bounded (Some x) ≡ true) (sym is) (heavier_bounded d) in (
-      length-set s.units u (Some b) ∙ s.long,
-      (
-        bounded_set s.units u b lt s.small fine,
-        (
-          λ t. subst (λ n. near (500 * n) (get_or s.runs t (pos 0)) ≡ true) (sym (runs_same s.units u c.args.standing b lt c.requires.stands)) (s.counted t),
-          (
-            λ t. weighted_more 500 s.units u w c.args.standing b (get_or s.mixes t (pos 0)) (pos w *ℤ lots_at es t) (get_or c.add-lots.new.sums t (pos 0)) lt c.requires.stands (ap (λ (x : Standing). x.mixed) is) (c.add-lots.ensures t) (s.weighted t) (near_factor 500 w (lots_at es t) (c.requires.lots t)),
-            (subst (λ (x : Standing). near (96000000000000 * weight_in (set s.units u (Some x))) (to_z w64 (of_z w64 c.widened-gap.result)) ≡ true) (sym is) (gap_near d (to_z w64 (of_z w64 c.widened-gap.result)) (gap_is c (lack_is d))), tt),
-          ),
-        ),
-      ),
-    )
+    let fine = subst (λ (x : Standing). bounded (Some x) ≡ true) (sym is) (heavier_bounded d) in
+    record {
+      long = length-set s.units u (Some b) ∙ s.long;
+      small = bounded_set s.units u b lt s.small fine;
+      counted = λ t. subst (λ n. near (500 * n) (get_or s.runs t (pos 0)) ≡ true) (sym (runs_same s.units u c.args.standing b lt c.requires.stands)) (s.counted t);
+      weighted = λ t. weighted_more 500 s.units u w c.args.standing b (get_or s.mixes t (pos 0)) (pos w *ℤ lots_at es t) (get_or c.add_lots.new.sums t (pos 0)) lt c.requires.stands (ap (λ (x : Standing). x.mixed) is) (c.add_lots.ensures t) (s.weighted t) (near_factor 500 w (lots_at es t) (c.requires.lots t));
+      narrow = subst (λ (x : Standing). near (96000000000000 * weight_in (set s.units u (Some x))) (to_z w64 (of_z w64 c.widened-gap.result)) ≡ true) (sym is) (gap_near d (to_z w64 (of_z w64 c.widened-gap.result)) (gap_is c (lack_is d)));
+    }
 
 pub returns : goal.returns
 returns c =
@@ -123,6 +118,6 @@ returns c =
       stage_is = refl;
       units_are = ap (λ x. set c.args.self.now.units c.args.unit (Some x)) (heavier_is e);
       runs_are = refl;
-      mixes_are = c.add-lots.ensures;
+      mixes_are = c.add_lots.ensures;
       gap_is = gap_is e (lack_is d);
     }

@@ -8,8 +8,8 @@ pub loop-unit-preserved : goal.loop-unit-preserved
 loop-unit-preserved c =
     let n = c.loop-unit.unit in
     let s = c.args.self.now in
-    let sum = c.in-ok-uplift.uplift in
-    let pay = c.in-ok-pay.pay in
+    let sum = c.in_ok-uplift.uplift in
+    let pay = c.in_ok-pay.pay in
     let fit_pay : SFits w64 pay = search rules in
     let fit_sum : SFits w64 sum = search rules in
     let due = pay_at (get_or s.units n None) in
@@ -17,5 +17,5 @@ loop-unit-preserved c =
     c.loop-unit.invariant.0
     c.loop-unit.invariant.1
     (pay_near (get_or s.units n None) (s.small n))
-    (to_z-of_z w64 pay fit_pay ∙ same_value pay due c.in-ok-pay.ensures)
-    (to_z-of_z w64 sum fit_sum ∙ c.in-ok-uplift.ensures.1)
+    (to_z-of_z w64 pay fit_pay ∙ same_value pay due c.in_ok-pay.ensures)
+    (to_z-of_z w64 sum fit_sum ∙ c.in_ok-uplift.ensures.1)

@@ -3,7 +3,7 @@ use Rattle.std.proofs.lemmas.Int.{to_z-of_z}
 use Rattle.std.proofs.lemmas.List.{get_or-set_same, get_or-set_other, drop-set-lt}
 use Rattle.settlement.specs.Weighing.{pay_at}
 use Rattle.settlement.proofs.Finding.{same_value}
-use Rattle.settlement.proofs.sheet.Sheet.write_pays.Goals.{in-Some, in-default}
+use Rattle.settlement.proofs.sheet.Sheet.write_pays.Goals.{in-Some, in_default}
 use Rattle.settlement.proofs.sheet.Sheet.write_pays.Goals as goal
 
 pub loop-unit-preserved : goal.loop-unit-preserved
@@ -12,7 +12,7 @@ loop-unit-preserved c =
     let i = c.loop-unit.invariant in
     let xs = c.loop-unit.pays in
     let units = c.args.self.now.units in
-    elim c.match-pay-of.branch [
+    elim c.match-pay_of.branch [
       | in-Some w ↦
           let pay = w.in-Some.pay in
           let x = to_z w64 (of_z w64 pay) in
@@ -26,5 +26,5 @@ loop-unit-preserved c =
             length-set xs n x ∙ i.1,
             drop-set-lt c.args.units xs n x c.loop-unit-test.true ∙ i.2,
           )
-      | in-default w ↦ absurd (w.in-default.not-Some (pay_at (get_or units n None)) c.pay-of.ensures)
+      | in_default w ↦ absurd (w.in_default.not-Some (pay_at (get_or units n None)) c.pay_of.ensures)
     ]

@@ -18,8 +18,8 @@ weight_is c = to_z-of_z w64 c.from.result (search rules) ∙ c.from.ensures
 short-is : (c : goal.After-from) → to_z w64 (of_z w64 (c.args.best -ℤ c.args.gain)) ≡ c.args.best -ℤ c.args.gain
 short-is c = to_z-of_z w64 (c.args.best -ℤ c.args.gain) (fits_64 96000000000000 (c.args.best -ℤ c.args.gain) (omega arith) (short-near c))
 
-pub overflow-mul-result : goal.overflow-mul-result
-overflow-mul-result c = rw (weight_is c, to_z-of_z w64 c.args.best c.ranges.best, to_z-of_z w64 c.args.gain c.ranges.gain, short-is c) (fits c)
+pub overflow_mul-result : goal.overflow_mul-result
+overflow_mul-result c = rw (weight_is c, to_z-of_z w64 c.args.best c.ranges.best, to_z-of_z w64 c.args.gain c.ranges.gain, short-is c) (fits c)
 
 pub returns : goal.returns
 returns c = rw (weight_is c, to_z-of_z w64 c.args.best c.ranges.best, to_z-of_z w64 c.args.gain c.ranges.gain, short-is c) (to_z-of_z w64 (pos c.args.weight *ℤ (c.args.best -ℤ c.args.gain)) (fits c))
