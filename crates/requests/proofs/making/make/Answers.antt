@@ -8,13 +8,13 @@ returns g c =
     record {
       goes =
           elim c.match-request.branch [
-            | in-Need w ↦ rw (w.in-Need.is, w.docket-is, w.gains-is, w.fewer-table-is, w.more-table-is, w.buffer-is, w.pays-is, w.result-is) (λ m T W cs f. let h = w.need.ensures.goes m T W cs f in (h.0, ((w.need.result, h.1, w.entered.ensures), refl)))
-            | in-Price w ↦ rw (w.in-Price.is, w.docket-is, w.gains-is, w.fewer-table-is, w.more-table-is, w.buffer-is, w.pays-is, w.result-is) (λ m T W cs f. let h = w.price.ensures.goes m T W cs f in (h.0, ((w.price.result, h.1, w.entered-in-Price.ensures), refl)))
-            | in-Run w ↦ rw (w.in-Run.is, w.docket-is, w.gains-is, w.fewer-table-is, w.more-table-is, w.buffer-is, w.pays-is, w.result-is) (λ m T W cs f. let h = w.run.ensures.goes m T W cs f in (h.0, (h.1, refl)))
-            | in-Mix w ↦ rw (w.in-Mix.is, w.docket-is, w.gains-is, w.fewer-table-is, w.more-table-is, w.buffer-is, w.pays-is, w.result-is) (λ m T W cs f. let h = w.mix.ensures.goes m T W cs f in (h.0, ((w.mix.result, h.1, w.entered-in-Mix.ensures), refl)))
-            | in-Supply w ↦ rw (w.in-Supply.is, w.docket-is, w.gains-is, w.fewer-table-is, w.more-table-is, w.buffer-is, w.pays-is, w.result-is) (λ m T W cs f. let h = w.supply.ensures m T W cs f in (h.0, (h.1, refl)))
-            | in-Show w ↦ rw (w.in-Show.is, w.docket-is, w.gains-is, w.fewer-table-is, w.more-table-is, w.buffer-is, w.pays-is, w.result-is) (λ m T W cs f. let h = w.show.ensures m T W cs f in (h.0, (h.1, refl)))
-            | in-Judge w ↦ rw (w.in-Judge.is, w.docket-is, w.gains-is, w.fewer-table-is, w.more-table-is, w.buffer-is, w.pays-is, w.result-is) (λ m T W cs f. let h = w.judge.ensures m T W cs f in (h.0, (h.1, refl)))
+            | in-Need w ↦ rw (w.in-Need.is, w.docket-is, w.gains-is, w.fewer_table-is, w.more_table-is, w.buffer-is, w.pays-is, w.result-is) (λ m T W cs f. let h = w.need.ensures.goes m T W cs f in (h.0, ((w.need.result, h.1, w.entered.ensures), refl)))
+            | in-Price w ↦ rw (w.in-Price.is, w.docket-is, w.gains-is, w.fewer_table-is, w.more_table-is, w.buffer-is, w.pays-is, w.result-is) (λ m T W cs f. let h = w.price.ensures.goes m T W cs f in (h.0, ((w.price.result, h.1, w.entered-in-Price.ensures), refl)))
+            | in-Run w ↦ rw (w.in-Run.is, w.docket-is, w.gains-is, w.fewer_table-is, w.more_table-is, w.buffer-is, w.pays-is, w.result-is) (λ m T W cs f. let h = w.run.ensures.goes m T W cs f in (h.0, (h.1, refl)))
+            | in-Mix w ↦ rw (w.in-Mix.is, w.docket-is, w.gains-is, w.fewer_table-is, w.more_table-is, w.buffer-is, w.pays-is, w.result-is) (λ m T W cs f. let h = w.mix.ensures.goes m T W cs f in (h.0, ((w.mix.result, h.1, w.entered-in-Mix.ensures), refl)))
+            | in-Supply w ↦ rw (w.in-Supply.is, w.docket-is, w.gains-is, w.fewer_table-is, w.more_table-is, w.buffer-is, w.pays-is, w.result-is) (λ m T W cs f. let h = w.supply.ensures m T W cs f in (h.0, (h.1, refl)))
+            | in-Show w ↦ rw (w.in-Show.is, w.docket-is, w.gains-is, w.fewer_table-is, w.more_table-is, w.buffer-is, w.pays-is, w.result-is) (λ m T W cs f. let h = w.show.ensures m T W cs f in (h.0, (h.1, refl)))
+            | in-Judge w ↦ rw (w.in-Judge.is, w.docket-is, w.gains-is, w.fewer_table-is, w.more_table-is, w.buffer-is, w.pays-is, w.result-is) (λ m T W cs f. let h = w.judge.ensures m T W cs f in (h.0, (h.1, refl)))
           ];
       fleet =
           elim c.match-request.branch [
@@ -26,5 +26,5 @@ returns g c =
             | in-Show w ↦ rw w.docket-is refl
             | in-Judge w ↦ rw w.docket-is refl
           ];
-      long = record { gains = k.gains; fewer = k.fewer-table; more = k.more-table; schedule = k.buffer; pays = k.pays };
+      long = record { gains = k.gains; fewer = k.fewer_table; more = k.more_table; schedule = k.buffer; pays = k.pays };
     }
