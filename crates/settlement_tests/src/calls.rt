@@ -2,6 +2,7 @@
 use crate::day::{Day, schedule};
 use crate::said;
 use fleet::{Entry, FewerLots, Gain, MoreLots, SLOTS};
+use std::process::Abort;
 use std::test::*;
 use terms::Decline;
 
@@ -62,96 +63,115 @@ fn may_write(says: Said) -> bool {
 impl Day {
     fn run_in(
         &mut self,
+        rt: &impl Abort,
         unit: usize,
         lots: &[i32],
         table: &mut [Option<Gain>],
     ) -> Result<Said, Fail> {
         let steps = schedule(self.heap, lots)?;
         let says = said(self.docket.run(unit, &steps, table));
-        assert!(may_write(says) || is_free(table));
+        assert!(rt; may_write(says) || is_free(table));
         Ok(says)
     }
 
     fn supply_in(
         &self,
+        rt: &impl Abort,
         unit: usize,
         fewer: &mut [Option<FewerLots>],
         more: &mut [Option<MoreLots>],
     ) -> Result<Said, Fail> {
         let says = said(self.docket.supply(unit, fewer, more));
-        assert!(may_write(says) || is_free(fewer) && is_free(more));
+        assert!(rt; may_write(says) || is_free(fewer) && is_free(more));
         Ok(says)
     }
 
     fn show_in(
         &self,
+        rt: &impl Abort,
         unit: usize,
         table: &mut [Option<Gain>],
         out: &mut [Entry],
     ) -> Result<Said, Fail> {
         let says = said(self.docket.show(unit, table, out));
-        assert!(may_write(says) || is_free(table));
-        assert!(says.0 == 0 || is_marked(out));
+        assert!(rt; may_write(says) || is_free(table));
+        assert!(rt; says.0 == 0 || is_marked(out));
         Ok(says)
     }
 
-    fn run(&mut self, unit: usize, lots: &[i32], slots: usize) -> Result<Said, Fail> {
+    fn run(
+        &mut self,
+        rt: &impl Abort,
+        unit: usize,
+        lots: &[i32],
+        slots: usize,
+    ) -> Result<Said, Fail> {
         let mut table = [None; SLOTS];
-        assert!(slots <= SLOTS);
-        self.run_in(unit, lots, &mut table[..slots])
+        assert!(rt; slots <= SLOTS);
+        self.run_in(rt, unit, lots, &mut table[..slots])
     }
 
-    fn supply(&self, unit: usize, fewer: usize, more: usize) -> Result<Said, Fail> {
+    fn supply(
+        &self,
+        rt: &impl Abort,
+        unit: usize,
+        fewer: usize,
+        more: usize,
+    ) -> Result<Said, Fail> {
         let mut fewer_table = [None; SLOTS];
         let mut more_table = [None; SLOTS];
-        assert!(fewer <= SLOTS && more <= SLOTS);
-        self.supply_in(unit, &mut fewer_table[..fewer], &mut more_table[..more])
+        assert!(rt; fewer <= SLOTS && more <= SLOTS);
+        self.supply_in(rt, unit, &mut fewer_table[..fewer], &mut more_table[..more])
     }
 
-    fn show(&self, unit: usize, slots: usize, room: usize) -> Result<Said, Fail> {
+    fn show(&self, rt: &impl Abort, unit: usize, slots: usize, room: usize) -> Result<Said, Fail> {
         let mut table = [None; SLOTS];
         let mut out = [MARK; 3];
-        assert!(slots <= SLOTS && room <= 3);
-        self.show_in(unit, &mut table[..slots], &mut out[..room])
+        assert!(rt; slots <= SLOTS && room <= 3);
+        self.show_in(rt, unit, &mut table[..slots], &mut out[..room])
     }
 
-    fn judge_in(&self, room: usize) -> Result<Said, Fail> {
+    fn judge_in(&self, rt: &impl Abort, room: usize) -> Result<Said, Fail> {
         let mut pays = [7; 3];
-        assert!(room <= 3);
+        assert!(rt; room <= 3);
         let says = said(self.docket.judge(&mut pays[..room]));
-        assert!(says.0 == 0 || pays == [7; 3]);
+        assert!(rt; says.0 == 0 || pays == [7; 3]);
         Ok(says)
     }
 
-    fn ask(&mut self, call: Call) -> Result<Said, Fail> {
+    fn ask(&mut self, rt: &impl Abort, call: Call) -> Result<Said, Fail> {
         match call {
             Call::Need(wanted) => Ok(said(self.docket.need(wanted))),
             Call::Price(over, numerators) => Ok(said(self.docket.price(over, numerators))),
-            Call::Run(unit, lots, slots) => self.run(unit, lots, slots),
+            Call::Run(unit, lots, slots) => self.run(rt, unit, lots, slots),
             Call::Mix(unit, weight, lots) => {
                 let steps = schedule(self.heap, lots)?;
                 Ok(said(self.docket.mix(unit, weight, &steps)))
             }
-            Call::Supply(unit, fewer, more) => self.supply(unit, fewer, more),
-            Call::Show(unit, slots, room) => self.show(unit, slots, room),
-            Call::Judge(room) => self.judge_in(room),
+            Call::Supply(unit, fewer, more) => self.supply(rt, unit, fewer, more),
+            Call::Show(unit, slots, room) => self.show(rt, unit, slots, room),
+            Call::Judge(room) => self.judge_in(rt, room),
         }
     }
 
-    // The call says this, and where that is a decline, a judge says the same as before.
-    pub(crate) fn says(&mut self, call: Call, says: Said) -> Result<(), Fail> {
-        let before = self.judge()?;
-        assert_eq!(self.ask(call)?, says);
+    // The call says this, and where that is a decline, a judge says the same as before. The row names it where it fails.
+    fn says_at(&mut self, rt: &impl Abort, row: usize, call: Call, says: Said) -> Result<(), Fail> {
+        let before = self.judge(rt)?;
+        assert_eq!(rt; self.ask(rt, call)?, says, "row {row}");
         if says.0 == 0 {
             return Ok(());
         }
-        self.judges(before)
+        self.judges(rt, before)
     }
 
-    pub(crate) fn says_all(&mut self, calls: &[(Call, Said)]) -> Result<(), Fail> {
+    pub(crate) fn says(&mut self, rt: &impl Abort, call: Call, says: Said) -> Result<(), Fail> {
+        self.says_at(rt, 0, call, says)
+    }
+
+    pub(crate) fn says_all(&mut self, rt: &impl Abort, calls: &[(Call, Said)]) -> Result<(), Fail> {
         for row in 0..calls.len() {
             let (call, says) = calls[row];
-            self.says(call, says).note(row)?;
+            self.says_at(rt, row, call, says)?;
         }
         Ok(())
     }

@@ -3,6 +3,7 @@ use fleet::Entry;
 use fleet_kinds::{ArcRow, ArcTable};
 use settlement::{Docket, Judgement, Unopened, Verdict};
 use std::alloc::Global;
+use std::process::Abort;
 use std::test::*;
 use terms::Decline;
 
@@ -150,19 +151,19 @@ pub(crate) fn opened(heap: Global, units: usize, periods: usize, weight: u32) ->
 
 impl Day {
     // A judge with room for three pays.
-    pub(crate) fn judge(&self) -> Result<Judged, Fail> {
+    pub(crate) fn judge(&self, rt: &impl Abort) -> Result<Judged, Fail> {
         let mut pays = [UNWRITTEN; 3];
         match self.docket.judge(&mut pays) {
             Ok(judgement) => Ok(told(judgement, pays)),
             Err(decline) => {
-                assert_eq!(pays, [UNWRITTEN; 3]);
+                assert_eq!(rt; pays, [UNWRITTEN; 3]);
                 Ok(Judged::No(decline.cause.number(), decline.place))
             }
         }
     }
 
-    pub(crate) fn judges(&self, wanted: Judged) -> Result<(), Fail> {
-        assert_eq!(self.judge()?, wanted);
+    pub(crate) fn judges(&self, rt: &impl Abort, wanted: Judged) -> Result<(), Fail> {
+        assert_eq!(rt; self.judge(rt)?, wanted);
         Ok(())
     }
 }

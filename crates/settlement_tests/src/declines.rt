@@ -92,17 +92,20 @@ const MIXES: &[(Call<'static>, Said)] = &[
 #[test]
 fn rows_runs_and_mixes(rt: HostRuntime) -> Result<(), Fail> {
     let mut day = opened(rt.alloc(), 2, 2, 1000)?;
-    day.says_all(ROWS)?;
-    day.says_all(RUNS)?;
-    day.says_all(MIXES)?;
-    day.judges(Judged::Least(Sums {
-        uplift: 4,
-        over: 1,
-        gap: 0,
-        weight: 1000,
-        pays: [4, 0, UNWRITTEN],
-    }))?;
-    opened(rt.alloc(), 2, 2, 1)?.says_all(LARGEST)
+    day.says_all(&rt, ROWS)?;
+    day.says_all(&rt, RUNS)?;
+    day.says_all(&rt, MIXES)?;
+    day.judges(
+        &rt,
+        Judged::Least(Sums {
+            uplift: 4,
+            over: 1,
+            gap: 0,
+            weight: 1000,
+            pays: [4, 0, UNWRITTEN],
+        }),
+    )?;
+    opened(rt.alloc(), 2, 2, 1)?.says_all(&rt, LARGEST)
 }
 
 // Two periods, three units, of which unit 2 has no schedule.
@@ -124,7 +127,7 @@ const ASKED: &[(Call<'static>, Said)] = &[
 
 #[test]
 fn supply_and_show(rt: HostRuntime) -> Result<(), Fail> {
-    opened(rt.alloc(), 3, 2, 1)?.says_all(ASKED)
+    opened(rt.alloc(), 3, 2, 1)?.says_all(&rt, ASKED)
 }
 
 // Three periods. The runs miss the second and the third need.
@@ -159,6 +162,6 @@ const MISSED_BY_MIXES: &[(Call<'static>, Said)] = &[
 
 #[test]
 fn judge(rt: HostRuntime) -> Result<(), Fail> {
-    opened(rt.alloc(), 2, 3, 2)?.says_all(MISSED_BY_RUNS)?;
-    opened(rt.alloc(), 2, 3, 2)?.says_all(MISSED_BY_MIXES)
+    opened(rt.alloc(), 2, 3, 2)?.says_all(&rt, MISSED_BY_RUNS)?;
+    opened(rt.alloc(), 2, 3, 2)?.says_all(&rt, MISSED_BY_MIXES)
 }

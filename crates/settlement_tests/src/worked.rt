@@ -28,29 +28,33 @@ const MISSING: &[(Call<'static>, Said)] = &[
     (Call::Judge(2), (44, 0)),
 ];
 
-fn settled(heap: Global, over: u32, numerator: i32, mixes: &[(Call, Said)]) -> Result<Day, Fail> {
+fn settled(
+    rt: &impl Abort,
+    heap: Global,
+    over: u32,
+    numerator: i32,
+    mixes: &[(Call, Said)],
+) -> Result<Day, Fail> {
     let mut day = opened(heap, 2, 1, 2)?;
-    day.says(Call::Need(&[12]), OK)?;
-    day.says(Call::Price(over, &[numerator]), OK)?;
-    day.says_all(RUNS)?;
-    day.says_all(mixes)?;
+    day.says(rt, Call::Need(&[12]), OK)?;
+    day.says(rt, Call::Price(over, &[numerator]), OK)?;
+    day.says_all(rt, RUNS)?;
+    day.says_all(rt, mixes)?;
     Ok(day)
 }
 
 #[test]
 fn verdicts(rt: HostRuntime) -> Result<(), Fail> {
-    let heap = rt.alloc();
-    settled(heap, 1, 6, MIXES)?.judges(Judged::Least(totals(2, 1, 0, (2, 0))))?;
-    settled(heap, 1, 5, MIXES)?.judges(Judged::Within(totals(4, 1, 4, (0, 4))))?;
-    settled(heap, 1, 6, MISSING)?.judges(Judged::No(44, 0))
+    settled(&rt, rt.alloc(), 1, 6, MIXES)?.judges(&rt, Judged::Least(totals(2, 1, 0, (2, 0))))?;
+    settled(&rt, rt.alloc(), 1, 5, MIXES)?.judges(&rt, Judged::Within(totals(4, 1, 4, (0, 4))))?;
+    settled(&rt, rt.alloc(), 1, 6, MISSING)?.judges(&rt, Judged::No(44, 0))
 }
 
 // The same prices over 2: uplift, gap and pays are twice as large.
 #[test]
 fn over_two(rt: HostRuntime) -> Result<(), Fail> {
-    let heap = rt.alloc();
-    settled(heap, 2, 12, MIXES)?.judges(Judged::Least(totals(4, 2, 0, (4, 0))))?;
-    settled(heap, 2, 10, MIXES)?.judges(Judged::Within(totals(8, 2, 8, (0, 8))))
+    settled(&rt, rt.alloc(), 2, 12, MIXES)?.judges(&rt, Judged::Least(totals(4, 2, 0, (4, 0))))?;
+    settled(&rt, rt.alloc(), 2, 10, MIXES)?.judges(&rt, Judged::Within(totals(8, 2, 8, (0, 8))))
 }
 
 // At 5 cents all schedules of unit 0 gain 0, and the first is off.
@@ -80,11 +84,11 @@ const LATE: &[(Call<'static>, Said)] = &[
 // A verdict changes nothing: all may be asked again, and what was declined before it is declined after it.
 #[test]
 fn after_a_verdict(rt: HostRuntime) -> Result<(), Fail> {
-    let mut day = settled(rt.alloc(), 1, 5, MIXES)?;
+    let mut day = settled(&rt, rt.alloc(), 1, 5, MIXES)?;
     let verdict = Judged::Within(totals(4, 1, 4, (0, 4)));
     asks(&rt, &day)?;
-    day.judges(verdict)?;
-    day.says_all(LATE)?;
+    day.judges(&rt, verdict)?;
+    day.says_all(&rt, LATE)?;
     asks(&rt, &day)?;
-    day.judges(verdict)
+    day.judges(&rt, verdict)
 }
