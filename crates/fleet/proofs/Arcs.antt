@@ -1,5 +1,5 @@
 -- An arc's outputs, as bounds. Assumes nothing.
-use Rattle.std.proofs.Common.{◌≡◌, ℕ, ◌<◌, ◌≤◌, true, ◌⊎◌, ℤ, ◌≤ℤ◌, Some, None, Option, refl, subst, ⊎_elim}
+use Rattle.std.proofs.Common.{◌≡◌, ℕ, ◌<◌, true, ℤ, ◌≤ℤ◌, Some, None, Option, refl, subst, ⊎_elim}
 use lib.Signed.{le_z}
 use Rattle.std.proofs.lemmas.Bool.{and_parts, and_from, both_ways, cases_lt}
 use Rattle.terms.specs.Numbers.{Near}

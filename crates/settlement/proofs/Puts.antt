@@ -15,7 +15,7 @@ use Rattle.fleet.specs.Units.{Meaning}
 use Rattle.fleet.specs.Schedules.{gain_of}
 use Rattle.fleet.specs.Rows.{NeedRowOf, PriceRowOf}
 use Rattle.fleet.specs.Gains.{best_gain}
-use Rattle.fleet.specs.Uplifts.{best, or_zero, pay_of}
+use Rattle.fleet.specs.Uplifts.{or_zero, pay_of}
 use Rattle.settlement.specs.declared.stages.Stage.{Stage}
 use Rattle.settlement.specs.declared.stages.Stage.TheVariants.{Blank, Needed, Priced}
 use Rattle.settlement.specs.declared.standing.Standing.{Standing}

@@ -6,7 +6,7 @@ use Rattle.fleet.specs.declared.records.Entry.{Entry}
 use Rattle.fleet.specs.Units.{Meaning}
 use Rattle.fleet.specs.Schedules.{Prices, gain_of}
 use Rattle.fleet.specs.Gains.{BestGain}
-use Rattle.fleet.specs.Uplifts.{best, pay_of, uplift_of}
+use Rattle.fleet.specs.Uplifts.{pay_of, uplift_of}
 use Rattle.settlement.specs.Ledger.{Ledger, has, weighs}
 
 -- the lots of a period, 0 past the end

@@ -1,4 +1,4 @@
-use Rattle.std.proofs.Common.{◌≡◌, ℕ, ◌*◌, ◌<◌, true, length, get_or, set, ℤ, pos, ◌+ℤ◌, Some, sym, refl, ap, ◌∙◌, subst, arith, length-set, w64}
+use Rattle.std.proofs.Common.{◌≡◌, ℕ, ◌*◌, ◌<◌, true, length, get_or, set, pos, ◌+ℤ◌, Some, sym, refl, ap, ◌∙◌, subst, arith, length-set, w64}
 use Rattle.std.proofs.lemmas.Int.{to_z-of_z}
 use Rattle.terms.specs.Numbers.{near}
 use Rattle.terms.proofs.Ints.{one_mulℤ}
