@@ -1,7 +1,7 @@
 // Outages over any fleet.
 ghost use Rattle.std.specs.Prelude.{◌≡◌, ◌≤◌, false, [], ◌∷◌, ◌++◌, take, is_ok, if◌then◌else◌};
 ghost use Rattle.fleet_kinds.specs.OutageLists.{covers, out, only_zero, out_meaning, outage_fault, AddAnswer};
-ghost use Rattle.std.proofs.Common.{rules, arith};
+ghost use Rattle.std.proofs.Common.{rules};
 
 use fleet::{Fleet, Range};
 use terms::{Cause, Decline};
@@ -108,7 +108,7 @@ impl<F: Fleet> Outages<F> {
 impl<F: Fleet> Fleet for Outages<F> {
     ghost meaning = { λ s. out_meaning (take s.count s.list) (F.Fleet.meaning s.fleet) };
 
-    ghost sound = { first_of (Prim.search rules, Prim.grind (arith, Self.row.coded.inj)) };
+    ghost sound = { Prim.search rules };
 
     fn units(&self) -> usize {
         self.fleet.units()

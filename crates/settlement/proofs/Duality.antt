@@ -6,7 +6,7 @@ use Rattle.std.proofs.lemmas.Int.{ints}
 use Rattle.std.proofs.ByRecursion.{All-weaker}
 use Rattle.std.proofs.lemmas.List.Sums.{sum_by-cons}
 use Rattle.std.proofs.lemmas.Bool.{cases_Bool}
-use Rattle.std.specs.List.{AllByRecursion as All}
+use Rattle.std.specs.List.{AllByRecursion}
 use Rattle.terms.specs.Sums.{sum_to, sum_of}
 use Rattle.terms.proofs.Ints.{test_le, mul_addℤ, mul_leℤ, mul_leftℤ, one_mulℤ, zero_factor}
 use Rattle.terms.proofs.Sums.{sum_to_same, sum_of_nonneg, sum_of_zero, sum_of_none}
@@ -80,7 +80,7 @@ cancel w a b one h =
     (λ e. absurd (too_much w (pos w *ℤ a) (pos w *ℤ b) (pos w *ℤ pos 1) (pos w *ℤ (b +ℤ pos 1)) one (*ℤ_comm (pos w) (pos 1) ∙ one_mulℤ (pos w)) h (mul_leℤ w (b +ℤ pos 1) a (over_one a b e)) (mul_addℤ (pos w) b (pos 1))))
     (cases_Bool (le_z a b))
 
-sum_of_alike : {X : Type 0} (f g : X → ℤ) (xs : List X) → All (λ x. f x ≡ g x) xs → sum_of f xs ≡ sum_of g xs
+sum_of_alike : {X : Type 0} (f g : X → ℤ) (xs : List X) → AllByRecursion (λ x. f x ≡ g x) xs → sum_of f xs ≡ sum_of g xs
 sum_of_alike f g [] h = refl
 sum_of_alike f g (x ∷ xs) (h, hs) = let r = sum_of_alike f g xs hs in omega (arith, ints, h, r)
 
@@ -127,7 +127,7 @@ module _ (m : Meaning) (sound : Sound m) (T W : ℕ) (l : Ledger) (k : Kept m T 
   pub ran_pay_nonneg : (u : ℕ) → Ran l u → (r : Prices) → pos 0 ≤ℤ pay_of (m.model u) T r (run_of l u)
   ran_pay_nonneg u h r = owed_nonneg (m.model u) (sound.each u) T (run_of l u) (ran_schedule u h) r
 
-  terms_nonneg : (r : Prices) → All (λ x. pos 0 ≤ℤ (pos x.weight *ℤ pay_of (m.model x.unit) T r x.schedule)) l.mixes
+  terms_nonneg : (r : Prices) → AllByRecursion (λ x. pos 0 ≤ℤ (pos x.weight *ℤ pay_of (m.model x.unit) T r x.schedule)) l.mixes
   terms_nonneg r = All-weaker _ _ (λ x h. product_nonneg x.weight _ (owed_nonneg (m.model x.unit) (sound.each x.unit) T x.schedule h.1 r)) l.mixes k.mixed
 
   pub gap_nonneg : (r : Prices) → pos 0 ≤ℤ gap_at m T r l
@@ -137,7 +137,7 @@ module _ (m : Meaning) (sound : Sound m) (T W : ℕ) (l : Ledger) (k : Kept m T 
   pub gap_zero : gap_at m T l.prices l ≡ pos 0 → AllBest m T l
   gap_zero e = by l.mixes k.mixed (sum_of_zero _ l.mixes (terms_nonneg l.prices) e)
     where
-      by : (xs : List Mix) → All (λ x. (x.unit < m.units) × Schedule (m.model x.unit) T x.schedule × (1 ≤ x.weight)) xs → All (λ x. pos x.weight *ℤ pay_of (m.model x.unit) T l.prices x.schedule ≡ pos 0) xs → All (λ x. BestGain (m.model x.unit) T l.prices (gain_of (m.model x.unit) l.prices x.schedule)) xs
+      by : (xs : List Mix) → AllByRecursion (λ x. (x.unit < m.units) × Schedule (m.model x.unit) T x.schedule × (1 ≤ x.weight)) xs → AllByRecursion (λ x. pos x.weight *ℤ pay_of (m.model x.unit) T l.prices x.schedule ≡ pos 0) xs → AllByRecursion (λ x. BestGain (m.model x.unit) T l.prices (gain_of (m.model x.unit) l.prices x.schedule)) xs
       by [] h z = tt
       by (x ∷ xs) (h, hs) (z, zs) =
           let p = m.model x.unit in
@@ -147,7 +147,7 @@ module _ (m : Meaning) (sound : Sound m) (T W : ℕ) (l : Ledger) (k : Kept m T 
   pub zero_gap : AllBest m T l → gap_at m T l.prices l ≡ pos 0
   zero_gap a = sum_of_none _ l.mixes (by l.mixes k.mixed a)
     where
-      by : (xs : List Mix) → All (λ x. (x.unit < m.units) × Schedule (m.model x.unit) T x.schedule × (1 ≤ x.weight)) xs → All (λ x. BestGain (m.model x.unit) T l.prices (gain_of (m.model x.unit) l.prices x.schedule)) xs → All (λ x. pos x.weight *ℤ pay_of (m.model x.unit) T l.prices x.schedule ≡ pos 0) xs
+      by : (xs : List Mix) → AllByRecursion (λ x. (x.unit < m.units) × Schedule (m.model x.unit) T x.schedule × (1 ≤ x.weight)) xs → AllByRecursion (λ x. BestGain (m.model x.unit) T l.prices (gain_of (m.model x.unit) l.prices x.schedule)) xs → AllByRecursion (λ x. pos x.weight *ℤ pay_of (m.model x.unit) T l.prices x.schedule ≡ pos 0) xs
       by [] h b = tt
       by (x ∷ xs) (h, hs) (b, bs) =
           let p = m.model x.unit in

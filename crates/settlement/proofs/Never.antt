@@ -4,7 +4,7 @@ use Rattle.std.proofs.lemmas.Int.{ints}
 use Rattle.std.proofs.ByRecursion.{All-weaker}
 use Rattle.std.proofs.lemmas.List.{get_or_past}
 use Rattle.std.proofs.lemmas.Bool.{cases_lt}
-use Rattle.std.specs.List.{prefix_len, AllByRecursion as All}
+use Rattle.std.specs.List.{prefix_len, AllByRecursion}
 use Rattle.terms.specs.Numbers.{Near, near}
 use Rattle.terms.specs.Sums.{sum_to, sum_of}
 use Rattle.terms.proofs.Ints.{mul_leℤ}
@@ -92,7 +92,7 @@ sum_to_near : (n b : ℕ) (f : ℕ → ℤ) → ((i : ℕ) → i < n → Near b 
 sum_to_near zero b f h = near_zero (0 * b)
 sum_to_near (suc n) b f h = near_more (n * b + b) (suc n * b) (sum_to n f +ℤ f n) (omega arith) (near_add (n * b) b (sum_to n f) (f n) (sum_to_near n b f (λ i lt. h i (omega arith))) (h n (omega arith)))
 
-sum_of_le : {X : Type 0} (f g : X → ℤ) (xs : List X) → All (λ x. f x ≤ℤ g x) xs → sum_of f xs ≤ℤ sum_of g xs
+sum_of_le : {X : Type 0} (f g : X → ℤ) (xs : List X) → AllByRecursion (λ x. f x ≤ℤ g x) xs → sum_of f xs ≤ℤ sum_of g xs
 sum_of_le f g [] h = omega (arith, ints)
 sum_of_le f g (x ∷ xs) (h, hs) = let r = sum_of_le f g xs hs in omega (arith, ints, h, r)
 

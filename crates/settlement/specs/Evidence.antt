@@ -1,6 +1,6 @@
 -- What a ledger shows: lots, gap and uplift, and the conditions of the evidence. Assumes nothing.
 use Rattle.std.specs.Prelude.{◌≡◌, ℕ, ◌<◌, true, List, [], get_or, ℤ, pos, ◌*ℤ◌, Some, None, Option, slice_index_or}
-use Rattle.std.specs.List.{AllByRecursion as All}
+use Rattle.std.specs.List.{AllByRecursion}
 use Rattle.terms.specs.Sums.{sum_to, sum_of}
 use Rattle.fleet.specs.declared.records.Entry.{Entry}
 use Rattle.fleet.specs.Units.{Meaning}
@@ -61,4 +61,4 @@ pub record Evidence (m : Meaning) (T W : ℕ) (l : Ledger) : Type 0 where
 
 -- each mix gains the best of its unit
 abbrev pub AllBest : Meaning → ℕ → Ledger → Type 0
-AllBest m T l = All (λ x. BestGain (m.model x.unit) T l.prices (gain_of (m.model x.unit) l.prices x.schedule)) l.mixes
+AllBest m T l = AllByRecursion (λ x. BestGain (m.model x.unit) T l.prices (gain_of (m.model x.unit) l.prices x.schedule)) l.mixes

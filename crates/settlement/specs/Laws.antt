@@ -1,6 +1,6 @@
 -- What holds of every ledger, and of the schedule check. Assumes nothing.
 use Rattle.std.specs.Prelude.{◌≡◌, ℕ, ◌<◌, ◌≤◌, true, false, List, [], Some, None}
-use Rattle.std.specs.List.{AllByRecursion as All}
+use Rattle.std.specs.List.{AllByRecursion}
 use Rattle.fleet.specs.declared.records.Entry.{Entry}
 use Rattle.fleet.specs.Units.{Meaning, UnitModel}
 use Rattle.fleet.specs.Schedules.{Schedule, Allowed, FirstBad}
@@ -10,7 +10,7 @@ use Rattle.settlement.specs.Ledger.{Ledger, Call, is_priced, weighs, bad_at, led
 -- runs and mixes are allowed schedules of the fleet's units; no unit's mixes weigh more than W, and none without a run;
 -- before priced there are neither; at priced the prices keep their bounds
 pub record Kept (m : Meaning) (T W : ℕ) (l : Ledger) : Type 0 where
-  pub mixed : All (λ x. (x.unit < m.units) × Schedule (m.model x.unit) T x.schedule × (1 ≤ x.weight)) l.mixes
+  pub mixed : AllByRecursion (λ x. (x.unit < m.units) × Schedule (m.model x.unit) T x.schedule × (1 ≤ x.weight)) l.mixes
   pub ran : (u : ℕ) (es : List Entry) → l.runs u ≡ Some es → (u < m.units) × Schedule (m.model u) T es
   pub early : is_priced l.stage ≡ false → ((u : ℕ) → l.runs u ≡ None) × (l.mixes ≡ [])
   pub light : (u : ℕ) → weighs u l.mixes ≤ W

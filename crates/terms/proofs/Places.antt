@@ -4,7 +4,7 @@ use lib.IntN.{zero-*ℤ}
 use Rattle.std.proofs.lemmas.Int.{ints}
 use Rattle.std.proofs.lemmas.Bool.Decides.{nat_tests}
 use Rattle.std.proofs.lemmas.Bool.{cases_eq}
-use Rattle.std.specs.List.{AllByRecursion as All}
+use Rattle.std.specs.List.{AllByRecursion}
 use Rattle.terms.specs.Sums.{sum_to, sum_of}
 use Rattle.terms.proofs.Ints.{add_mulℤ}
 use Rattle.terms.proofs.Sums.{sum_to_same, sum_to_zero, sum_to_add}
@@ -41,7 +41,7 @@ pick (suc n) u w b h =
     ]
 
 -- what a list gives to each place, times b there, over all places: the same sum taken along the list
-pub by_place : {X : Type 0} (n : ℕ) (u : X → ℕ) (w : X → ℤ) (b : ℕ → ℤ) (xs : List X) → All (λ x. u x < n) xs → sum_to n (λ i. sum_of (λ x. only_at (u x) (w x) i) xs *ℤ b i) ≡ sum_of (λ x. w x *ℤ b (u x)) xs
+pub by_place : {X : Type 0} (n : ℕ) (u : X → ℕ) (w : X → ℤ) (b : ℕ → ℤ) (xs : List X) → AllByRecursion (λ x. u x < n) xs → sum_to n (λ i. sum_of (λ x. only_at (u x) (w x) i) xs *ℤ b i) ≡ sum_of (λ x. w x *ℤ b (u x)) xs
 by_place n u w b [] h = sum_to_same n _ (λ _. pos 0) (λ i l. zero-*ℤ (b i)) ∙ sum_to_zero n
 by_place n u w b (x ∷ xs) (h, k) =
     let r = by_place n u w b xs k in

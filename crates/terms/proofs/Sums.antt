@@ -2,7 +2,7 @@
 use Rattle.std.proofs.Common.{◌≡◌, ℕ, zero, suc, ◌<◌, List, [], ◌∷◌, ◌++◌, ℤ, pos, ◌+ℤ◌, ◌-ℤ◌, ◌*ℤ◌, ◌≤ℤ◌, sym, refl, arith}
 use lib.IntN.{*ℤ-zero}
 use Rattle.std.proofs.lemmas.Int.{ints}
-use Rattle.std.specs.List.{AllByRecursion as All}
+use Rattle.std.specs.List.{AllByRecursion}
 use Rattle.terms.specs.Sums.{sum_to, sum_of}
 use Rattle.terms.proofs.Ints.{mul_addℤ}
 
@@ -65,15 +65,15 @@ module _ {X : Type 0} where
   sum_of_swap m f [] = sym (sum_to_zero m)
   sum_of_swap m f (x ∷ xs) = let r = sum_of_swap m f xs in let a = sum_to_add m (f x) (λ j. sum_of (λ y. f y j) xs) in omega (arith, ints)
 
-  pub sum_of_nonneg : (f : X → ℤ) (xs : List X) → All (λ x. pos 0 ≤ℤ f x) xs → pos 0 ≤ℤ sum_of f xs
+  pub sum_of_nonneg : (f : X → ℤ) (xs : List X) → AllByRecursion (λ x. pos 0 ≤ℤ f x) xs → pos 0 ≤ℤ sum_of f xs
   sum_of_nonneg f [] h = omega (arith, ints)
   sum_of_nonneg f (x ∷ xs) (h, k) = let r = sum_of_nonneg f xs k in omega (arith, ints)
 
-  pub sum_of_none : (f : X → ℤ) (xs : List X) → All (λ x. f x ≡ pos 0) xs → sum_of f xs ≡ pos 0
+  pub sum_of_none : (f : X → ℤ) (xs : List X) → AllByRecursion (λ x. f x ≡ pos 0) xs → sum_of f xs ≡ pos 0
   sum_of_none f [] h = refl
   sum_of_none f (x ∷ xs) (h, k) = let r = sum_of_none f xs k in omega (arith, ints)
 
-  pub sum_of_zero : (f : X → ℤ) (xs : List X) → All (λ x. pos 0 ≤ℤ f x) xs → sum_of f xs ≡ pos 0 → All (λ x. f x ≡ pos 0) xs
+  pub sum_of_zero : (f : X → ℤ) (xs : List X) → AllByRecursion (λ x. pos 0 ≤ℤ f x) xs → sum_of f xs ≡ pos 0 → AllByRecursion (λ x. f x ≡ pos 0) xs
   sum_of_zero f [] h e = tt
   sum_of_zero f (x ∷ xs) (h, k) e =
       let r = sum_of_nonneg f xs k in

@@ -34,8 +34,8 @@ record Fits (g : Rattle.fleet.proofs.schedules.check_schedule.Given.Over) (c : g
   narrow : SFits w32 c.cost-paid.result
   output : SFits w32 (get_or c.args.schedule.now c.loop-step.step-index blank).output
 
-fits-here : (g : Rattle.fleet.proofs.schedules.check_schedule.Given.Over) (c : goal.After-cost-paid g) → Fits g c
-fits-here g c =
+fits_here : (g : Rattle.fleet.proofs.schedules.check_schedule.Given.Over) (c : goal.After-cost-paid g) → Fits g c
+fits_here g c =
     let e = get_or c.args.schedule.now c.loop-step.step-index blank in
     let p = (g.F.Fleet.meaning c.args.fleet.now).model c.args.unit in
     let sp = (g.met.F.Fleet.sound c.args.fleet.now).each c.args.unit in
@@ -60,7 +60,7 @@ gain_sum t c x lt h k = let all : Near 48000000000000 (c +ℤ x) = record { low 
 
 pub overflow_add-cost : goal.overflow_add-cost
 overflow_add-cost g c =
-    let f = fits-here g c in
+    let f = fits_here g c in
     let n32 = f.narrow in
     let n64 : SFits w64 c.cost-paid.result = fits_64 500000000 c.cost-paid.result (lit< tt) f.cheap in
     let inv = rw (c.loop-step.cost-is, c.loop-step.gain-is) at c.loop-step.invariant in
@@ -68,7 +68,7 @@ overflow_add-cost g c =
 
 pub gain_of-gain-requires : goal.gain_of-gain-requires
 gain_of-gain-requires g c =
-    let f = fits-here g (goal.at.gain_of-gain-requires g c).After-cost-paid in
+    let f = fits_here g (goal.at.gain_of-gain-requires g c).After-cost-paid in
     let priced = row_priced c.args.row.now in
     let near : Near 1000000000 c.numerator.result = subst (Near 1000000000) (sym c.numerator.ensures) (priced.each c.loop-step.period) in
     record {
@@ -80,14 +80,14 @@ gain_of-gain-requires g c =
 
 pub overflow_add-gain : goal.overflow_add-gain
 overflow_add-gain g c =
-    let f = fits-here g (goal.at.overflow_add-gain g c).After-cost-paid in
+    let f = fits_here g (goal.at.overflow_add-gain g c).After-cost-paid in
     let n64 : SFits w64 c.gain_of-gain.result = fits_64 1000000000000 c.gain_of-gain.result (lit< tt) c.gain_of-gain.ensures.bounded in
     let inv = rw (c.loop-step.cost-is, c.loop-step.gain-is) at c.loop-step.invariant in
     rw c.loop-step.gain-is (simp to_z-of_z (gain_sum c.loop-step.period c.loop-step.gain c.gain_of-gain.result f.within inv.small c.gain_of-gain.ensures.bounded))
 
 pub loop-step-preserved : goal.loop-step-preserved
 loop-step-preserved g c =
-    let f = fits-here g (goal.at.loop-step-preserved g c).After-cost-paid in
+    let f = fits_here g (goal.at.loop-step-preserved g c).After-cost-paid in
     let e = get_or c.args.schedule.now c.loop-step.step-index blank in
     let p = (g.F.Fleet.meaning c.args.fleet.now).model c.args.unit in
     let sp = (g.met.F.Fleet.sound c.args.fleet.now).each c.args.unit in
