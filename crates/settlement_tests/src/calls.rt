@@ -154,7 +154,8 @@ impl Day {
         }
     }
 
-    // The call says this, and where that is a decline, a judge says the same as before. The row names it where it fails.
+    // The call says this, and where that is a decline, a judge says the same as before. An answer that differs is told
+    // with its row.
     fn says_at(&mut self, rt: &impl Abort, row: usize, call: Call, says: Said) -> Result<(), Fail> {
         let before = self.judge(rt)?;
         assert_eq!(rt; self.ask(rt, call)?, says, "row {row}");
