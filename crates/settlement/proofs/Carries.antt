@@ -48,23 +48,23 @@ module _ {F : Type 0} (mean : F → Meaning) (d : Docket F) where
 
   -- a decline leaves the docket, or gives it back alike
   pub refused_alike : (d' : Docket F) (c : Call) (e : Decline) → d'.fleet ≡ d.fleet → d'.periods.count ≡ T₀ → d'.weight ≡ W₀ → d'.sheet ≡ d.sheet → ((l : Ledger) → SheetFollows m₀ T₀ l d.sheet → Held (held_back m₀ T₀ W₀ l c) e) → GoesOn mean d d' c (Enters c (Err e))
-  refused_alike d' c e same-fleet same-periods same-weight same-sheet say m T W cs f =
+  refused_alike d' c e same_fleet same_periods same_weight same_sheet say m T W cs f =
       at_own
       (λ m T W. SheetFollows m T (ledger m T W cs) d.sheet → mean d'.fleet ≡ m → d'.periods.count ≡ T → d'.weight ≡ W → Follows mean m T W (cs ++ (c ∷ [])) d' × Enters c (Err e) m T W (ledger m T W cs))
       m T W f.fleet_is f.periods_are f.weight_is
       (λ s a b g.
       let held = say (ledger m₀ T₀ W₀ cs) s in
       let same = more m₀ T₀ W₀ cs c ∙ stays m₀ T₀ W₀ (ledger m₀ T₀ W₀ cs) c held.fault held.is in (
-        record { fleet_is = a; periods_are = b; weight_is = g; sheet_is = subst (λ l. SheetFollows m₀ T₀ l d'.sheet) (sym same) (subst (SheetFollows m₀ T₀ (ledger m₀ T₀ W₀ cs)) (sym same-sheet) s) },
+        record { fleet_is = a; periods_are = b; weight_is = g; sheet_is = subst (λ l. SheetFollows m₀ T₀ l d'.sheet) (sym same) (subst (SheetFollows m₀ T₀ (ledger m₀ T₀ W₀ cs)) (sym same_sheet) s) },
         held_answer {X = Unit {0}} m₀ T₀ W₀ (ledger m₀ T₀ W₀ cs) c (λ _. Unit {0}) e held,
       ))
-      f.sheet_is (ap mean same-fleet ∙ f.fleet_is) (same-periods ∙ f.periods_are) (same-weight ∙ f.weight_is)
+      f.sheet_is (ap mean same_fleet ∙ f.fleet_is) (same_periods ∙ f.periods_are) (same_weight ∙ f.weight_is)
 
   pub refused : (c : Call) (e : Decline) → ((l : Ledger) → SheetFollows m₀ T₀ l d.sheet → Held (held_back m₀ T₀ W₀ l c) e) → GoesOn mean d d c (Enters c (Err e))
   refused c e say = refused_alike d c e refl refl refl refl say
 
   pub accepted : (d' : Docket F) (c : Call) → d'.fleet ≡ d.fleet → d'.periods.count ≡ T₀ → d'.weight ≡ W₀ → ((l : Ledger) → Kept m₀ T₀ W₀ l → SheetFollows m₀ T₀ l d.sheet → (held_back m₀ T₀ W₀ l c ≡ None) × ((f : Fault) → wrong m₀ T₀ W₀ l c f → ⊥) × SheetFollows m₀ T₀ (entered m₀ T₀ W₀ l c) d'.sheet) → GoesOn mean d d' c (Enters c (Ok tt))
-  accepted d' c same-fleet same-periods same-weight say m T W cs f =
+  accepted d' c same_fleet same_periods same_weight say m T W cs f =
       at_own
       (λ m T W. SheetFollows m T (ledger m T W cs) d.sheet → mean d'.fleet ≡ m → d'.periods.count ≡ T → d'.weight ≡ W → Follows mean m T W (cs ++ (c ∷ [])) d' × Enters c (Ok tt) m T W (ledger m T W cs))
       m T W f.fleet_is f.periods_are f.weight_is
@@ -74,7 +74,7 @@ module _ {F : Type 0} (mean : F → Meaning) (d : Docket F) where
         record { fleet_is = a; periods_are = b; weight_is = g; sheet_is = subst (λ l. SheetFollows m₀ T₀ l d'.sheet) (sym next) put.2 },
         (no_fault m₀ T₀ W₀ (ledger m₀ T₀ W₀ cs) c put.0 put.1, tt),
       ))
-      f.sheet_is (ap mean same-fleet ∙ f.fleet_is) (same-periods ∙ f.periods_are) (same-weight ∙ f.weight_is)
+      f.sheet_is (ap mean same_fleet ∙ f.fleet_is) (same_periods ∙ f.periods_are) (same_weight ∙ f.weight_is)
 
   -- a question leaves the docket and the ledger
   pub asked : (c : Call) (Says : Meaning → ℕ → ℕ → Ledger → Type 0) → ((l : Ledger) → entered m₀ T₀ W₀ l c ≡ l) → ((cs : List Call) → SheetFollows m₀ T₀ (ledger m₀ T₀ W₀ cs) d.sheet → Says m₀ T₀ W₀ (ledger m₀ T₀ W₀ cs)) → GoesOn mean d d c Says

@@ -23,7 +23,7 @@ made_no (Some f) Is d h = record { fault = f; is = refl; says = h }
 stage_21 : (ok : Bool) (after : Option Fault) (old new : Stage) (e : Decline) → ok ≡ false → Refused {X = Unit {0}} 21 0 old new (Err e) → Held (check ok 21 0 after) e
 stage_21 ok after old new e fails r = check_no ok 21 0 after e fails r.0
 
-module _ {F : Type 0} (mean : F → Meaning) (d d' : Docket F) (same_fleet : d'.fleet ≡ d.fleet) (same-periods : d'.periods.count ≡ d.periods.count) (same-weight : d'.weight ≡ d.weight) (same : SameSums d.sheet d'.sheet) where
+module _ {F : Type 0} (mean : F → Meaning) (d d' : Docket F) (same_fleet : d'.fleet ≡ d.fleet) (same_periods : d'.periods.count ≡ d.periods.count) (same_weight : d'.weight ≡ d.weight) (same : SameSums d.sheet d'.sheet) where
   abbrev m₀ : Meaning
   m₀ = mean d.fleet
 
@@ -38,11 +38,11 @@ module _ {F : Type 0} (mean : F → Meaning) (d d' : Docket F) (same_fleet : d'.
   at x is l f = subst (StageFollows T₀ l) is f.stage_is
 
   declines : (c : Call) (e : Decline) → d'.sheet ≡ d.sheet → ((l : Ledger) → SheetFollows m₀ T₀ l d.sheet → Held (held_back m₀ T₀ W₀ l c) e) → GoesOn mean d d' c (Enters c (Err e))
-  declines c e alike say = refused_alike mean d d' c e same_fleet same-periods same-weight alike say
+  declines c e alike say = refused_alike mean d d' c e same_fleet same_periods same_weight alike say
 
   pub need_goes : (w : Bor (List ℤ)) (x : Stage) (r : Result (Unit {0}) Decline) → d.sheet.stage ≡ x → RowEntered T₀ x (Need w) d'.sheet.stage r → KeptAtDecline d.sheet d'.sheet r → GoesOn mean d d' (need w.now) (Enters (need w.now) r)
   need_goes w Blank (Ok tt) is h k =
-      accepted mean d d' (need w.now) same_fleet same-periods same-weight
+      accepted mean d d' (need w.now) same_fleet same_periods same_weight
       (λ l kept f. (check_yes (is_blank l.stage) 21 0 (need_fault T₀ w.now) (ap is_blank (at Blank is l f)) ∙ h.3, λ _ wrong. wrong, need_put m₀ T₀ W₀ l w.now d.sheet d'.sheet h.0 f same h.1 h.2))
   need_goes w Blank (Err e) is h k =
       declines (need w.now) e k
@@ -54,7 +54,7 @@ module _ {F : Type 0} (mean : F → Meaning) (d d' : Docket F) (same_fleet : d'.
 
   pub price_goes : (n : ℕ) (w : Bor (List ℤ)) (x : Stage) (r : Result (Unit {0}) Decline) → d.sheet.stage ≡ x → RowEntered T₀ x (Price n w) d'.sheet.stage r → KeptAtDecline d.sheet d'.sheet r → GoesOn mean d d' (price n w.now) (Enters (price n w.now) r)
   price_goes n w (Needed needs) (Ok tt) is h k =
-      accepted mean d d' (price n w.now) same_fleet same-periods same-weight
+      accepted mean d d' (price n w.now) same_fleet same_periods same_weight
       (λ l kept f.
       let here = at (Needed needs) is l f in
       (check_yes (is_needed l.stage) 21 0 (price_fault T₀ n w.now) (ap is_needed here.0) ∙ h.3, λ _ wrong. wrong, price_put m₀ T₀ W₀ l n w.now d.sheet d'.sheet needs h.0 kept f (ap is_priced here.0) same here.1 h.1 h.2))

@@ -120,8 +120,8 @@ module _ {F : Type 0} (mean : F → Meaning) (d : Docket F) (sound : Sound (mean
           run_30 e (inr h) = refused mean d (run u es slots) e (λ l f. absurd (h.1 es (subst (λ n. Schedule p₀ n es) (sym (passed l row f known).long) (counted l f).scheduled)))
 
           pub run_taken : (d' : Docket F) (b : ℤ) → d'.fleet ≡ d.fleet → d'.periods.count ≡ T₀ → d'.weight ≡ W₀ → Room slots → BestGain p₀ row.periods (prices_of row) b → RunNoted u k.gain b es d.sheet d'.sheet → u < length d.sheet.units → GoesOn mean d d' (run u es slots) (Enters (run u es slots) (Ok tt))
-          run_taken d' b same-fleet same-periods same-weight room found noted within =
-              accepted mean d d' (run u es slots) same-fleet same-periods same-weight
+          run_taken d' b same_fleet same_periods same_weight room found noted within =
+              accepted mean d d' (run u es slots) same_fleet same_periods same_weight
               (λ l kept f.
               let ok = passed l row f known in
               let sp = sound.each u in
@@ -171,8 +171,8 @@ module _ {F : Type 0} (mean : F → Meaning) (d : Docket F) (sound : Sound (mean
           mix_29 e bad says = refused mean d (mix u w es) e (λ l f. held_by _ _ e (weighed l f) (check_no (leb 1 w && leb w (W₀ - s.mixed)) 29 u None e (no_weight w (W₀ - s.mixed) bad) says))
 
           pub mix_taken : (d' : Docket F) → d'.fleet ≡ d.fleet → d'.periods.count ≡ T₀ → d'.weight ≡ W₀ → 1 ≤ w → w ≤ W₀ - s.mixed → MixNoted u s w k.gain es d.sheet d'.sheet → u < length d.sheet.units → GoesOn mean d d' (mix u w es) (Enters (mix u w es) (Ok tt))
-          mix_taken d' same-fleet same-periods same-weight some left noted within =
-              accepted mean d d' (mix u w es) same-fleet same-periods same-weight
+          mix_taken d' same_fleet same_periods same_weight some left noted within =
+              accepted mean d d' (mix u w es) same_fleet same_periods same_weight
               (λ l kept f. (
                 weighed l f ∙ check_yes (leb 1 w && leb w (W₀ - s.mixed)) 29 u None (fair_weight w (W₀ - s.mixed) some left),
                 λ _ wrong. wrong,

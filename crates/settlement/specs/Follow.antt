@@ -49,4 +49,4 @@ pub record Follows {F : Type 0} (mean : F → Meaning) (m : Meaning) (T W : ℕ)
 -- whatever calls led to the docket, it goes on with one more over the same fleet, periods and weight, and what is said
 -- holds at the ledger before it
 abbrev pub GoesOn : {F : Type 0} → (F → Meaning) → Docket F → Docket F → Call → (Meaning → ℕ → ℕ → Ledger → Type 0) → Type 0
-GoesOn mean old new c Answered-so = (m : Meaning) (T W : ℕ) (cs : List Call) → Follows mean m T W cs old → Follows mean m T W (cs ++ (c ∷ [])) new × Answered-so m T W (ledger m T W cs)
+GoesOn mean old new c AnsweredSo = (m : Meaning) (T W : ℕ) (cs : List Call) → Follows mean m T W cs old → Follows mean m T W (cs ++ (c ∷ [])) new × AnsweredSo m T W (ledger m T W cs)
