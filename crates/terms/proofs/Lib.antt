@@ -2,3 +2,4 @@ pub mod Ints
 pub mod Bounds
 pub mod Sums
 pub mod Places
+pub mod Says

@@ -3,88 +3,65 @@ ghost use Rattle.std.specs.Prelude.{◌≡◌};
 ghost use Rattle.terms.specs.Declines.{number_of, layer_of};
 
 // Who declines: the reader of the file, the opener of a fleet, or the clerk of the docket.
-#[derive(Clone, Copy, Debug)]
+#[derive(Clone, Copy, PartialEq, Eq, Debug)]
 pub enum Layer {
     Reader,
     Fleet,
     Docket,
 }
 
-// Why something is declined; docs/DECLINES.md has the exact condition of each.
-#[derive(Clone, Copy, Debug)]
+// Why something is declined, with the pool's number; docs/DECLINES.md has the exact condition of each.
+#[derive(Clone, Copy, PartialEq, Eq, Debug)]
 pub enum Cause {
-    FileTooLong,
-    LineTooLong,
-    ForeignByte,
-    UnknownForm,
-    UnexpectedWord,
-    NotANumeral,
-    NumeralOutOfRange,
-    OfferDisagrees,
-    FormOutOfPlace,
-    TooManyOffers,
-    NoUnits,
-    PeriodsOrWeight,
-    TooManyOutages,
-    BadOutage,
-    WrongStage,
-    RowLength,
-    RowValue,
-    NoSuchUnit,
-    RunStands,
-    ScheduleLength,
-    ScheduleNotAllowed,
-    MixBeforeRun,
-    MixWeight,
-    TooLittleRoom,
-    BeyondRange,
-    NoSchedule,
-    UnitWithoutRun,
-    RunsMissNeed,
-    MixesTooLight,
-    MixesMissNeed,
+    FileTooLong = 1,
+    LineTooLong = 2,
+    ForeignByte = 3,
+    UnknownForm = 4,
+    UnexpectedWord = 5,
+    NotANumeral = 6,
+    NumeralOutOfRange = 7,
+    OfferDisagrees = 8,
+    FormOutOfPlace = 9,
+    TooManyOffers = 10,
+    NoUnits = 11,
+    PeriodsOrWeight = 12,
+    TooManyOutages = 13,
+    BadOutage = 14,
+    WrongStage = 21,
+    RowLength = 22,
+    RowValue = 23,
+    NoSuchUnit = 24,
+    RunStands = 25,
+    ScheduleLength = 26,
+    ScheduleNotAllowed = 27,
+    MixBeforeRun = 28,
+    MixWeight = 29,
+    TooLittleRoom = 30,
+    BeyondRange = 31,
+    NoSchedule = 32,
+    UnitWithoutRun = 41,
+    RunsMissNeed = 42,
+    MixesTooLight = 43,
+    MixesMissNeed = 44,
 }
 
 impl Cause {
-    // The pool's number of the cause.
+    // The pool's number of the cause: its discriminant, which only a cast reads.
     pub fn number(self) -> u32
         ensures { result ≡ number_of self }
     {
-        match self {
-            Cause::FileTooLong => 1,
-            Cause::LineTooLong => 2,
-            Cause::ForeignByte => 3,
-            Cause::UnknownForm => 4,
-            Cause::UnexpectedWord => 5,
-            Cause::NotANumeral => 6,
-            Cause::NumeralOutOfRange => 7,
-            Cause::OfferDisagrees => 8,
-            Cause::FormOutOfPlace => 9,
-            Cause::TooManyOffers => 10,
-            Cause::NoUnits => 11,
-            Cause::PeriodsOrWeight => 12,
-            Cause::TooManyOutages => 13,
-            Cause::BadOutage => 14,
-            Cause::WrongStage => 21,
-            Cause::RowLength => 22,
-            Cause::RowValue => 23,
-            Cause::NoSuchUnit => 24,
-            Cause::RunStands => 25,
-            Cause::ScheduleLength => 26,
-            Cause::ScheduleNotAllowed => 27,
-            Cause::MixBeforeRun => 28,
-            Cause::MixWeight => 29,
-            Cause::TooLittleRoom => 30,
-            Cause::BeyondRange => 31,
-            Cause::NoSchedule => 32,
-            Cause::UnitWithoutRun => 41,
-            Cause::RunsMissNeed => 42,
-            Cause::MixesTooLight => 43,
-            Cause::MixesMissNeed => 44,
-        }
+        self as u32
     }
 
-    // The layer that declines for this cause: 1 to 10 the reader, 11 to 14 the fleet, the rest the docket.
+    // A decline for this cause.
+    pub fn at(self, place: usize) -> Decline
+        ensures { result ≡ record { cause = self; place = place } }
+    {
+        Decline { cause: self, place }
+    }
+
+    // The layer that declines for this cause, by the pool's own ranges of numbers, since by cases it would be the list
+    // again: 1 to 10 the reader, 11 to 14 the fleet, the rest the docket.
     pub fn layer(self) -> Layer
         ensures { result ≡ layer_of self }
     {
@@ -97,7 +74,7 @@ impl Cause {
 }
 
 // A decline. Its layer and number are those of its cause, so they cannot disagree.
-#[derive(Clone, Copy, Debug)]
+#[derive(Clone, Copy, PartialEq, Eq, Debug)]
 pub struct Decline {
     pub cause: Cause,
     pub place: usize,

@@ -6,7 +6,5 @@ ghost use Rattle.terms.specs.Numbers.{near};
 pub fn is_near(limit: u32, number: i32) -> bool
     ensures { result ≡ near limit number }
 {
-    let limit = i64::from(limit);
-    let number = i64::from(number);
-    -limit <= number && number <= limit
+    number.unsigned_abs() <= limit
 }
