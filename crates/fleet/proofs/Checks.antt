@@ -1,6 +1,6 @@
 -- A schedule, entry by entry: whether it is allowed, and what it comes to. Assumes nothing.
-use Rattle.std.proofs.Common.{◌≡◌, ℕ, ◌+◌, ◌*◌, ◌<◌, ◌≤◌, true, false, List, length, get_or, drop, ℤ, pos, ◌+ℤ◌, Err, sym, refl, ap, ◌∙◌, subst, inl, inr, arith}
-use lib.IntN.{+ℤ_assoc, +ℤ_idl, +ℤ_idr}
+use Rattle.std.proofs.Common.{◌≡◌, ℕ, ◌+◌, ◌*◌, ◌<◌, ◌≤◌, true, List, length, get_or, drop, ℤ, pos, ◌+ℤ◌, Err, sym, refl, ap, ◌∙◌, subst, inl, inr, arith}
+use lib.IntN.{+ℤ_assoc, +ℤ_idr}
 use Rattle.std.proofs.lemmas.List.{drop_more, drop_all}
 use Rattle.std.proofs.lemmas.Int.{ints}
 use Rattle.terms.specs.Numbers.{Near}
@@ -30,18 +30,6 @@ pub record Going (p : UnitModel) (r : Prices) (all : List Entry) (i t a : ℕ) (
   pub small : Near (t * 1000000000000) g
 
 module _ (p : UnitModel) (r : Prices) (all : List Entry) where
-  pub going_first : (a : ℕ) → a ≡ p.start → Going p r all 0 0 a (pos 0) (pos 0)
-  going_first a e = record {
-    at = refl;
-    soon = omega arith;
-    ok = subst (λ s. AllowedFrom p 0 s all) e;
-    bad = λ k. subst (λ s. FirstBadFrom p 0 s all k) e;
-    costs = +ℤ_idl (cost_from p 0 a all) ∙ ap (λ s. cost_from p 0 s all) e;
-    gains = +ℤ_idl (gain_from p r 0 a all) ∙ ap (λ s. gain_from p r 0 s all) e;
-    cheap = record { low = omega (arith, ints); high = omega (arith, ints) };
-    small = record { low = omega (arith, ints); high = omega (arith, ints) };
-  }
-
   pub going_next : SoundUnit p → (i t a : ℕ) (c g x y : ℤ) → i < length all → Goes p t a (get_or all i blank) → x ≡ p.cost t a (get_or all i blank).state (get_or all i blank).output → y ≡ entry_gain p r t a (get_or all i blank).state (get_or all i blank).output → Near 500000000 x → Near 1000000000000 y → Going p r all i t a c g → Going p r all (i + 1) (t + 1) (get_or all i blank).state (c +ℤ x) (g +ℤ y)
   going_next sp i t a c g x y lt goes isx isy nx ny k =
       let e = get_or all i blank in
@@ -75,6 +63,3 @@ module _ (p : UnitModel) (r : Prices) (all : List Entry) where
         sym (+ℤ_idr c) ∙ ap (λ z. c +ℤ z) (sym (ap (cost_from p t a) nil)) ∙ k.costs,
         sym (+ℤ_idr g) ∙ ap (λ z. g +ℤ z) (sym (ap (gain_from p r t a) nil ∙ gain_nil p r t a)) ∙ k.gains,
       )
-
-  pub going_stuck : (i t a : ℕ) (c g : ℤ) → length all ≤ i → p.ends a ≡ false → Going p r all i t a c g → (d : Decline) → Says Docket 27 t d → Checked p r all (Err d)
-  going_stuck i t a c g done ends k = refused t (k.bad t (subst (λ es. FirstBadFrom p t a es t) (sym (drop_all i all done)) (ends, refl)))

@@ -1,5 +1,5 @@
 -- Going through the outputs of an arc. Assumes nothing.
-use Rattle.std.proofs.Common.{◌≡◌, true, ℤ, pos, ◌+ℤ◌, ◌≤ℤ◌, ◌<ℤ◌, Some, None, Option, sym, ap, ◌∙◌, inl, inr, arith}
+use Rattle.std.proofs.Common.{◌≡◌, true, ℤ, pos, ◌+ℤ◌, ◌≤ℤ◌, ◌<ℤ◌, Some, Option, sym, ap, ◌∙◌, inl, inr, arith}
 use Rattle.std.proofs.lemmas.Int.{ints, by_lt_z}
 use Rattle.fleet.specs.declared.records.Range.{Range}
 use Rattle.fleet.specs.Scores.{Scale, Lawful}
@@ -13,9 +13,6 @@ abbrev pub Tried : {S : Type 0} → (ℤ → S) → ℤ → ℤ → S → Type 0
 Tried f lo i x = (q : ℤ) × (lo ≤ℤ q) × (q <ℤ i) × (x ≡ f q)
 
 module _ {S : Type 0} {s : Scale S} (l : Lawful s) where
-  pub tried_none : (f : ℤ → S) (lo : ℤ) → Best s (Tried f lo lo) None
-  tried_none f lo = λ x h. let lt = h.2 in let ge = h.1 in omega (arith, ints)
-
   pub tried_more : (f : ℤ → S) (lo i j : ℤ) (o : Option S) (x : S) → lo ≤ℤ i → j ≡ i +ℤ pos 1 → x ≡ f i → Best s (Tried f lo i) o → Best s (Tried f lo j) (better_of s o x)
   tried_more f lo i j o x from next is h =
       best_join l (Tried f lo i) (λ y. y ≡ x) (Tried f lo j) o x h (best_one l x)

@@ -6,7 +6,7 @@ use Rattle.std.proofs.lemmas.Bool.Decides.{nat_tests}
 use Rattle.terms.specs.Numbers.{near}
 use Rattle.terms.proofs.Bounds.{near_test, near_true}
 use Rattle.fleet.specs.Rows.{Fault, Bounded, row_fault, PriceRowLaw, NeedRowLaw}
-use Rattle.fleet.proofs.RowFacts.{leading_each}
+use Rattle.std.proofs.lemmas.List.Sums.{prefix_len_passes}
 
 some_none : {P : Type 0} (f : Fault) → Some f ≡ None → P
 some_none f e = let z : ◌≡◌ {A = ℕ} 0 1 = cc in absurd (omega arith)
@@ -26,7 +26,7 @@ module _ (T m : ℕ) (xs : List ℤ) (other : Option Fault) where
       by true e false f h =
           let long : length xs ≡ T = grind (arith, nat_tests) in
           let all : length xs ≤ prefix_len (near m) xs = grind (arith, nat_tests) in
-          (record { long = long; each = λ t lt. near_test m (get_or xs t (pos 0)) (leading_each (near m) xs all t (omega arith)) }, h)
+          (record { long = long; each = λ t lt. near_test m (get_or xs t (pos 0)) (prefix_len_passes (near m) xs t (pos 0) (omega arith)) }, h)
       by true e true f h = some_none _ h
       by false e true f h = some_none _ h
       by false e false f h = some_none _ h

@@ -2,11 +2,11 @@
 use Rattle.std.proofs.Common.{◌≡◌, ℕ, suc, ◌+◌, ◌<◌, ◌≤◌, true, false, ◌⊎◌, List, [], ◌∷◌, length, ℤ, Some, None, Option, sym, refl, ap, ◌∙◌, subst, inl, inr, ⊎_elim, arith}
 use Rattle.std.proofs.lemmas.Bool.{cases_lt, both_ways}
 use Rattle.fleet.specs.declared.records.Entry.{Entry}
-use Rattle.fleet.specs.Units.{UnitModel, SoundUnit, holds}
+use Rattle.fleet.specs.Units.{UnitModel, SoundUnit}
 use Rattle.fleet.specs.Schedules.{Prices, AllowedFrom}
 use Rattle.fleet.specs.Scores.{Scale, Lawful}
 use Rattle.fleet.specs.Table.{Best, better_of, ToGo, Through, Via, Added, worth, score_from}
-use Rattle.fleet.proofs.Arcs.{holds_near, holds_none, arc_to}
+use Rattle.fleet.proofs.Arcs.{holds_near, arc_to}
 use Rattle.fleet.proofs.RowFacts.{Priced, near_gain}
 use Rattle.fleet.proofs.Bests.{best_like, best_join, best_one}
 
@@ -44,12 +44,6 @@ module _ {S : Type 0} {s : Scale S} (l : Lawful s) (p : UnitModel) (sp : SoundUn
 
   pub via_no_rest : (T t a b : ℕ) → Best s (ToGo s p r T (t + 1) b) None → Best s (Via s p r T t a b) None
   via_no_rest T t a b k = λ x v. k v.1.rest v.1.togo
-
-  pub via_no_arc : (T t a b : ℕ) → p.arc t a b ≡ None → Best s (Via s p r T t a b) None
-  via_no_arc T t a b e = λ x v. holds_none v.0 (subst (λ o. holds o v.0 ≡ true) e v.1.goes)
-
-  pub upto_none : (T t a : ℕ) → Best s (Upto s p r T t a 0) None
-  upto_none T t a = λ x u. let lt = u.under in omega arith
 
   upto_step : (T t a i : ℕ) (y : S) → Upto s p r T t a (i + 1) y → Upto s p r T t a i y ⊎ Via s p r T t a i y
   upto_step T t a i y u = ⊎_elim (λ lt. inl (record { to = u.to; under = lt; via = u.via })) (λ le. let lt = u.under in let same : u.to ≡ i = omega arith in inr (subst (λ b. Via s p r T t a b y) same u.via)) (cases_lt u.to i)

@@ -1,62 +1,86 @@
 -- From the best by two scores to the supply, and that there is only one. Assumes nothing.
-use Rattle.std.proofs.Common.{◌≡◌, ℕ, List, ℤ, ◌≤ℤ◌, Some, sym, refl, ap, ◌∙◌, subst}
+use Rattle.std.proofs.Common.{◌≡◌, ℕ, ◌*◌, Bool, true, false, List, length, ℤ, pos, ◌+ℤ◌, ◌≤ℤ◌, Some, sym, refl, ap, ◌∙◌, subst, arith}
+use Rattle.std.proofs.lemmas.Int.{ints}
+use Rattle.terms.specs.Numbers.{Near}
 use Rattle.terms.proofs.Ints.{both_le}
 use Rattle.fleet.specs.declared.records.Entry.{Entry}
-use Rattle.fleet.specs.declared.scores.MoreLots.{MoreLots}
-use Rattle.fleet.specs.declared.scores.FewerLots.{FewerLots}
-use Rattle.fleet.specs.Units.{UnitModel}
+use Rattle.fleet.specs.declared.rows.PriceRow.{PriceRow}
+use Rattle.fleet.specs.declared.scores.ByLots.{ByLots}
+use Rattle.fleet.specs.Units.{UnitModel, SoundUnit}
 use Rattle.fleet.specs.Schedules.{Prices, lots_of}
 use Rattle.fleet.specs.Gains.{Gains, BestGain, Supply, SupplyLaw}
-use Rattle.fleet.specs.Scores.{more_scale, fewer_scale}
+use Rattle.fleet.specs.Rows.{prices_of, periods_of}
+use Rattle.fleet.specs.Scores.{turned, lots_scale}
 use Rattle.fleet.specs.Table.{Best, ToGo, score_from}
-use Rattle.fleet.specs.ScoreLaws.{lexical_first, lexical_second}
+use Rattle.fleet.specs.ScoreLaws.{lots_lawful, lexical_first, lexical_second}
+use Rattle.fleet.proofs.RowFacts.{row_priced}
+use Rattle.fleet.proofs.Steps.{way_fits}
 use Rattle.fleet.proofs.Totals.{Part, gain_part, lots_part, score_gain, score_lots, to_go, way_gains, best_is, best_unique}
 
-more_gain : Part more_scale gain_part (λ x. x.gain)
-more_gain = record { none = refl; sum = λ a b. refl; made = λ g q. refl }
+turned_none : (f : Bool) → turned f (pos 0) ≡ pos 0
+turned_none false = refl
+turned_none true = refl
 
-more_lots : Part more_scale lots_part (λ x. x.lots)
-more_lots = record { none = refl; sum = λ a b. refl; made = λ g q. refl }
+turned_sum : (f : Bool) (a b : ℤ) → turned f (a +ℤ b) ≡ turned f a +ℤ turned f b
+turned_sum false a b = refl
+turned_sum true a b = omega (arith, ints)
 
-fewer_gain : Part fewer_scale gain_part (λ x. x.gain)
-fewer_gain = record { none = refl; sum = λ a b. refl; made = λ g q. refl }
+turned_back : (f : Bool) (q : ℤ) → turned f (turned f q) ≡ q
+turned_back false q = refl
+turned_back true q = omega (arith, ints)
 
-fewer_lots : Part fewer_scale lots_part (λ x. x.lots)
-fewer_lots = record { none = refl; sum = λ a b. refl; made = λ g q. refl }
+gains : {n : ℕ} (f : Bool) → Part (lots_scale {n = n} f) gain_part (λ x. x.gain)
+gains f = record { none = refl; sum = λ a b. refl; made = λ g q. refl }
 
-module _ (p : UnitModel) (r : Prices) (T : ℕ) (least : FewerLots) (most : MoreLots) (h : Best fewer_scale (ToGo fewer_scale p r T 0 p.start) (Some least)) (k : Best more_scale (ToGo more_scale p r T 0 p.start) (Some most)) where
+lots : {n : ℕ} (f : Bool) → Part (lots_scale {n = n} f) lots_part (λ x. turned f x.rank)
+lots f = record { none = turned_none f; sum = λ a b. turned_sum f a.rank b.rank; made = λ g q. turned_back f q }
+
+lowest : (x y : ℤ) → x ≤ℤ y → turned true y ≤ℤ turned true x
+lowest x y h = omega (arith, ints)
+
+-- the lots of a best score are within those of 48 periods
+pub rank_near : {n : ℕ} (f : Bool) (p : UnitModel) → SoundUnit p → (row : PriceRow) (x : ByLots n) → Best (lots_scale f) (ToGo (lots_scale f) p (prices_of row) (periods_of row) 0 p.start) (Some x) → Near 24000 x.rank
+rank_near f p sp row x h =
+    let long = h.0.long in
+    let short = row.numerators.short in
+    let fits : Near (length h.0.way * 500) x.rank = subst (λ y. Near (length h.0.way * 500) y.rank) h.0.score (way_fits (lots_lawful f) p sp (prices_of row) (row_priced row) 0 p.start h.0.way h.0.allowed).1 in
+    let low = fits.low in
+    let high = fits.high in
+    record { low = omega (arith, ints); high = omega (arith, ints) }
+
+module _ (p : UnitModel) (r : Prices) (T : ℕ) {n m : ℕ} (least : ByLots n) (most : ByLots m) (h : Best (lots_scale true) (ToGo (lots_scale true) p r T 0 p.start) (Some least)) (k : Best (lots_scale false) (ToGo (lots_scale false) p r T 0 p.start) (Some most)) where
   fewest : BestGain p T r least.gain
-  fewest = best_is fewer_scale p r T (λ x. x.gain) fewer_gain (λ a b. lexical_first a.gain b.lots b.gain a.lots) least h
+  fewest = best_is (lots_scale true) p r T (λ x. x.gain) (gains true) (λ a b. lexical_first a.gain a.rank b.gain b.rank) least h
 
   mostly : BestGain p T r most.gain
-  mostly = best_is more_scale p r T (λ x. x.gain) more_gain (λ a b. lexical_first a.gain a.lots b.gain b.lots) most k
+  mostly = best_is (lots_scale false) p r T (λ x. x.gain) (gains false) (λ a b. lexical_first a.gain a.rank b.gain b.rank) most k
 
   same : most.gain ≡ least.gain
   same = best_unique p T r most.gain least.gain mostly fewest
 
-  at_least : (es : List Entry) → Gains p T r least.gain es → least.lots ≤ℤ lots_of es
+  at_least : (es : List Entry) → Gains p T r least.gain es → turned true least.rank ≤ℤ lots_of es
   at_least es g =
-      let x = score_from fewer_scale p r 0 p.start es in
-      subst (λ q. least.lots ≤ℤ q) (score_lots p r (λ y. y.lots) fewer_lots 0 p.start es)
-      (lexical_second x.gain least.lots least.gain x.lots (h.1 x (to_go fewer_scale p r T es g.scheduled)) (score_gain p r (λ y. y.gain) fewer_gain 0 p.start es ∙ g.gains))
+      let x = score_from (lots_scale {n = n} true) p r 0 p.start es in
+      subst (λ q. turned true least.rank ≤ℤ q) (score_lots p r (λ y. turned true y.rank) (lots true) 0 p.start es)
+      (lowest x.rank least.rank (lexical_second x.gain x.rank least.gain least.rank (h.1 x (to_go (lots_scale true) p r T es g.scheduled)) (score_gain p r (λ y. y.gain) (gains true) 0 p.start es ∙ g.gains)))
 
-  lots_at_most : (es : List Entry) → Gains p T r least.gain es → lots_of es ≤ℤ most.lots
+  lots_at_most : (es : List Entry) → Gains p T r least.gain es → lots_of es ≤ℤ most.rank
   lots_at_most es g =
-      let x = score_from more_scale p r 0 p.start es in
-      subst (λ q. q ≤ℤ most.lots) (score_lots p r (λ y. y.lots) more_lots 0 p.start es)
-      (lexical_second x.gain x.lots most.gain most.lots (k.1 x (to_go more_scale p r T es g.scheduled)) (score_gain p r (λ y. y.gain) more_gain 0 p.start es ∙ g.gains ∙ sym same))
+      let x = score_from (lots_scale {n = m} false) p r 0 p.start es in
+      subst (λ q. q ≤ℤ most.rank) (score_lots p r (λ y. turned false y.rank) (lots false) 0 p.start es)
+      (lexical_second x.gain x.rank most.gain most.rank (k.1 x (to_go (lots_scale false) p r T es g.scheduled)) (score_gain p r (λ y. y.gain) (gains false) 0 p.start es ∙ g.gains ∙ sym same))
 
-  pub supplied : Supply p T r (least.gain, least.lots, most.lots)
-  supplied = record {
+  pub supplied : (few many : ℤ) → few ≡ turned true least.rank → many ≡ turned false most.rank → Supply p T r (least.gain, few, many)
+  supplied few many is are = subst (λ q. Supply p T r (least.gain, q, many)) (sym is) (subst (λ q. Supply p T r (least.gain, turned true least.rank, q)) (sym are) (record {
     best = fewest;
     few = h.0.way;
-    few_gains = way_gains fewer_scale p r T (λ x. x.gain) fewer_gain least h.0;
-    few_lots = sym (score_lots p r (λ x. x.lots) fewer_lots 0 p.start h.0.way) ∙ ap (λ x. x.lots) h.0.score;
+    few_gains = way_gains (lots_scale true) p r T (λ x. x.gain) (gains true) least h.0;
+    few_lots = sym (score_lots p r (λ x. turned true x.rank) (lots true) 0 p.start h.0.way) ∙ ap (λ x. turned true x.rank) h.0.score;
     many = k.0.way;
-    many_gains = subst (λ g. Gains p T r g k.0.way) same (way_gains more_scale p r T (λ x. x.gain) more_gain most k.0);
-    many_lots = sym (score_lots p r (λ x. x.lots) more_lots 0 p.start k.0.way) ∙ ap (λ x. x.lots) k.0.score;
+    many_gains = subst (λ g. Gains p T r g k.0.way) same (way_gains (lots_scale false) p r T (λ x. x.gain) (gains false) most k.0);
+    many_lots = sym (score_lots p r (λ x. turned false x.rank) (lots false) 0 p.start k.0.way) ∙ ap (λ x. turned false x.rank) k.0.score;
     between = λ es g. (at_least es g, lots_at_most es g);
-  }
+  }))
 
 triple : (x y : ℤ × ℤ × ℤ) → x.0 ≡ y.0 → x.1 ≡ y.1 → x.2 ≡ y.2 → x ≡ y
 triple x y a b c = make x.0 x.1 x.2 y.0 y.1 y.2 a b c

@@ -1,11 +1,16 @@
 -- From the best score of all ways to the best gain of all schedules. Assumes nothing.
-use Rattle.std.proofs.Common.{◌≡◌, ℕ, ◌+◌, true, List, [], ◌∷◌, ℤ, pos, ◌+ℤ◌, ◌≤ℤ◌, Some, None, sym, refl, ap, ◌∙◌, subst, arith}
+use Rattle.std.proofs.Common.{◌≡◌, ℕ, ◌+◌, true, List, [], ◌∷◌, ℤ, pos, ◌+ℤ◌, ◌≤ℤ◌, Some, None, Option, inr, sym, refl, ap, ◌∙◌, subst, arith}
+use Rattle.std.specs.Option.{ok_or}
+use Rattle.terms.specs.Declines.{Says}
+use Rattle.terms.specs.declared.decline.Decline.{Decline}
+use Rattle.terms.specs.declared.decline.Layer.TheVariants.{Docket}
 use Rattle.terms.proofs.Ints.{both_le}
 use Rattle.fleet.specs.declared.records.Entry.{Entry}
 use Rattle.fleet.specs.Units.{UnitModel}
 use Rattle.fleet.specs.Schedules.{Prices, Schedule, NoSchedule, gain_from, lots_of}
 use Rattle.fleet.specs.Gains.{Gains, BestGain, entry_gain}
 use Rattle.fleet.specs.Scores.{Scale}
+use Rattle.fleet.specs.Answers.{Searched}
 use Rattle.fleet.specs.Table.{Best, ToGo, worth, score_from}
 use Rattle.fleet.proofs.RowFacts.{gain_cons, gain_nil}
 
@@ -65,3 +70,8 @@ best_unique p T r g h x y =
     both_le g h
     (subst (λ z. z ≤ℤ h) x.attained.gains (y.most x.by x.attained.scheduled))
     (subst (λ z. z ≤ℤ g) y.attained.gains (x.most y.by y.attained.scheduled))
+
+-- the best of a unit's ways, or 32
+pub searched : {S : Type 0} (s : Scale S) (p : UnitModel) (r : Prices) (T u : ℕ) (room : Type 0) (o : Option S) (d : Decline) → room → Best s (ToGo s p r T 0 p.start) o → Says Docket 32 u d → Searched room p T u (λ x. Best s (ToGo s p r T 0 p.start) (Some x)) (ok_or o d)
+searched s p r T u room None d has h says = inr (has, none_allowed s p r T h, says)
+searched s p r T u room (Some x) d has h says = (has, h)

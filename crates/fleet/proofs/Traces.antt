@@ -1,6 +1,6 @@
 -- The first of the best ways, entry by entry. Assumes nothing.
-use Rattle.std.proofs.Common.{◌≡◌, ℕ, ◌+◌, ◌<◌, ◌≤◌, true, List, [], ◌∷◌, ◌++◌, length, take, drop, set, Some, sym, refl, ap, ◌∙◌, subst, ⊎_elim, arith}
-use Rattle.std.proofs.lemmas.List.{take_more_set, drop-set-lt, append_assoc, append-nil}
+use Rattle.std.proofs.Common.{◌≡◌, ℕ, ◌+◌, ◌<◌, true, List, [], ◌∷◌, ◌++◌, length, take, set, Some, sym, refl, ap, ◌∙◌, subst, ⊎_elim, arith}
+use Rattle.std.proofs.lemmas.List.{take_more_set, append_assoc, append-nil}
 use Rattle.fleet.specs.declared.records.Entry.{Entry}
 use Rattle.fleet.specs.Scores.{Scale, Lawful}
 use Rattle.fleet.specs.Units.{UnitModel, SoundUnit}
@@ -62,24 +62,14 @@ module _ {S : Type 0} {s : Scale S} (l : Lawful s) (p : UnitModel) (sp : SoundUn
             h
 
 -- t entries are written, and the first of the ways that score want is still to come
-pub record Showing {S : Type 0} (s : Scale S) (p : UnitModel) (r : Prices) (T : ℕ) (best : S) (before : List Entry) (t a : ℕ) (want : S) (out : List Entry) : Type 0 where
+pub record Showing {S : Type 0} (s : Scale S) (p : UnitModel) (r : Prices) (T : ℕ) (best : S) (t a : ℕ) (want : S) (out : List Entry) : Type 0 where
   pub inside : a < p.states
   pub top : Best s (ToGo s p r T t a) (Some want)
   pub rest : (es : List Entry) → FirstWay s p r T t a want es → FirstWay s p r T 0 p.start best (take t out ++ es)
-  pub past : drop T out ≡ drop T before
 
-module _ {S : Type 0} {s : Scale S} (l : Lawful s) (p : UnitModel) (sp : SoundUnit p) (r : Prices) (T : ℕ) (best : S) (before : List Entry) where
-  pub showing_first : (a : ℕ) → a ≡ p.start → Best s (ToGo s p r T 0 p.start) (Some best) → Showing s p r T best before 0 a best before
-  showing_first a e h = record {
-    inside = subst (λ k. k < p.states) (sym e) sp.starts;
-    top = subst (λ k. Best s (ToGo s p r T 0 k) (Some best)) (sym e) h;
-    rest = λ es f. subst (λ k. FirstWay s p r T 0 k best es) e f;
-    past = refl;
-  }
-
-  pub showing_next : (t a : ℕ) (w y : S) (e : Entry) (out : List Entry) → t < T → T ≤ length out → Step s p r T t a w e → Best s (ToGo s p r T (t + 1) e.state) (Some y) → Showing s p r T best before t a w out → Showing s p r T best before (t + 1) e.state y (set out t e)
-  showing_next t a w y e out lt room st next sh =
-      let fits : t < length out = omega arith in
+module _ {S : Type 0} {s : Scale S} (l : Lawful s) (p : UnitModel) (sp : SoundUnit p) (r : Prices) (T : ℕ) (best : S) where
+  pub showing_next : (t a : ℕ) (w y : S) (e : Entry) (out : List Entry) → t < T → t < length out → Step s p r T t a w e → Best s (ToGo s p r T (t + 1) e.state) (Some y) → Showing s p r T best t a w out → Showing s p r T best (t + 1) e.state y (set out t e)
+  showing_next t a w y e out lt fits st next sh =
       record {
         inside = arc_to p sp t a e.state e.output st.attains.goes;
         top = next;
@@ -87,10 +77,9 @@ module _ {S : Type 0} {s : Scale S} (l : Lawful s) (p : UnitModel) (sp : SoundUn
             let whole = sh.rest (e ∷ es) (first_cons l p sp r T t a w y e es lt st sh.top next f) in
             let cut : take t out ++ (e ∷ es) ≡ take (t + 1) (set out t e) ++ es = sym (ap (λ v. v ++ es) (take_more_set out t e fits) ∙ append_assoc (take t out) (e ∷ []) es) in
             subst (FirstWay s p r T 0 p.start best) cut whole;
-        past = drop-set-lt T out t e lt ∙ sh.past;
       }
 
-  pub showing_all : (t a : ℕ) (w : S) (out : List Entry) → t ≡ T → Showing s p r T best before t a w out → FirstWay s p r T 0 p.start best (take T out)
+  pub showing_all : (t a : ℕ) (w : S) (out : List Entry) → t ≡ T → Showing s p r T best t a w out → FirstWay s p r T 0 p.start best (take T out)
   showing_all t a w out e sh =
       let top = subst (λ k. Best s (ToGo s p r T k a) (Some w)) e sh.top in
       let nil = subst (λ k. FirstWay s p r T k a w []) (sym e) (first_nil l p sp r T a w top) in

@@ -8,7 +8,7 @@ use Rattle.fleet.specs.declared.schedules.Account.{Account}
 use Rattle.fleet.specs.declared.rows.PriceRow.{PriceRow}
 use Rattle.fleet.specs.Units.{UnitModel, Meaning}
 use Rattle.fleet.specs.Schedules.{Prices, Allowed, FirstBad, NoSchedule, cost_of, gain_of}
-use Rattle.fleet.specs.Rows.{prices_of}
+use Rattle.fleet.specs.Rows.{prices_of, periods_of}
 use Rattle.fleet.specs.Gains.{BestGain, Supply, First}
 
 -- the schedule check: cost and gain of what is allowed, else 27 at the first bad period
@@ -32,14 +32,14 @@ BufferKept T old new (Err d) = new ≡ old
 
 -- the three searches, at a checked row of the day's prices
 abbrev pub BestGainAnswer : Meaning → ℕ → PriceRow → ℕ → Result ℤ Decline → Type 0
-BestGainAnswer m u row slots r = Searched (Room slots) (m.model u) row.periods u (BestGain (m.model u) row.periods (prices_of row)) r
+BestGainAnswer m u row slots r = Searched (Room slots) (m.model u) (periods_of row) u (BestGain (m.model u) (periods_of row) (prices_of row)) r
 
 abbrev pub SupplyAnswer : Meaning → ℕ → PriceRow → ℕ → ℕ → Result (ℤ × ℤ × ℤ) Decline → Type 0
-SupplyAnswer m u row fewer more r = Searched (Room fewer × Room more) (m.model u) row.periods u (Supply (m.model u) row.periods (prices_of row)) r
+SupplyAnswer m u row fewer more r = Searched (Room fewer × Room more) (m.model u) (periods_of row) u (Supply (m.model u) (periods_of row) (prices_of row)) r
 
 -- with what is in the buffer before and after
 abbrev pub FirstBestAnswer : {X : Type 0} → Meaning → ℕ → PriceRow → ℕ → List Entry → List Entry → Result X Decline → Type 0
-FirstBestAnswer m u row slots old new r = Searched (Room slots × (row.periods ≤ length old)) (m.model u) row.periods u (λ _. First (m.model u) row.periods (prices_of row) (take row.periods new)) r × BufferKept row.periods old new r
+FirstBestAnswer m u row slots old new r = Searched (Room slots × ((periods_of row) ≤ length old)) (m.model u) (periods_of row) u (λ _. First (m.model u) (periods_of row) (prices_of row) (take (periods_of row) new)) r × BufferKept (periods_of row) old new r
 
 -- a work table after a search is free: its length is kept and no more is promised, but without room it is untouched
 pub record Free {X : Type 0} (room : Type 0) (old new : List X) : Type 0 where

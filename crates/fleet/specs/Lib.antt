@@ -7,3 +7,4 @@ pub mod Scores
 pub mod Table
 pub mod Answers
 pub mod ScoreLaws
+pub mod UnitDays

@@ -5,17 +5,26 @@ use Rattle.terms.specs.Declines.{Says}
 use Rattle.terms.specs.Numbers.{Near, near}
 use Rattle.terms.specs.declared.decline.Decline.{Decline}
 use Rattle.terms.specs.declared.decline.Layer.TheVariants.{Docket}
+use Rattle.fleet.specs.declared.rows.Row.{Row}
 use Rattle.fleet.specs.declared.rows.PriceRow.{PriceRow}
 use Rattle.fleet.specs.declared.rows.NeedRow.{NeedRow}
 use Rattle.fleet.specs.Schedules.{Prices}
 
+-- what a checked row of numbers within ±m holds, by period
+abbrev pub numbers_of : {m : ℕ} → Row m → List ℤ
+numbers_of r = take r.periods r.numbers
+
 -- what a checked price row says
 abbrev pub prices_of : PriceRow → Prices
-prices_of r = record { over = r.over; numerators = take r.periods r.numerators }
+prices_of r = record { over = r.over; numerators = numbers_of r.numerators }
+
+-- of how many periods
+abbrev pub periods_of : PriceRow → ℕ
+periods_of r = r.numerators.periods
 
 -- what a checked need row wants, by period
 abbrev pub wanted_of : NeedRow → List ℤ
-wanted_of r = take r.periods r.wanted
+wanted_of r = numbers_of r.wanted
 
 -- a number of a decline, and its place
 pub record Fault : Type 0 where
@@ -42,12 +51,16 @@ Made None Is (Err d) = ⊥
 Made (Some f) Is (Ok x) = ⊥
 Made (Some f) Is (Err d) = Says Docket f.number f.place d
 
-pub record PriceRowOf (T d : ℕ) (ns : List ℤ) (r : PriceRow) : Type 0 where
+pub record RowOf {m : ℕ} (T : ℕ) (xs : List ℤ) (r : Row m) : Type 0 where
   pub long : r.periods ≡ T
+  pub numbers : numbers_of r ≡ xs
+
+pub record PriceRowOf (T d : ℕ) (ns : List ℤ) (r : PriceRow) : Type 0 where
+  pub long : periods_of r ≡ T
   pub prices : prices_of r ≡ record { over = d; numerators = ns }
 
 pub record NeedRowOf (T : ℕ) (xs : List ℤ) (r : NeedRow) : Type 0 where
-  pub long : r.periods ≡ T
+  pub long : r.wanted.periods ≡ T
   pub needs : wanted_of r ≡ xs
 
 -- T numbers within ±m

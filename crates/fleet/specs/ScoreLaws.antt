@@ -1,10 +1,10 @@
--- The laws of the three scores. Assumes nothing.
-use Rattle.std.specs.Prelude.{◌≡◌, ℕ, ◌+◌, ◌*◌, true, false, ℤ, pos, ◌+ℤ◌, neg_ℤ, ◌≤ℤ◌, int_le}
-use Rattle.std.proofs.Common.{ap, sym, arith, add-mul}
+-- The laws of the scores. Assumes nothing.
+use Rattle.std.specs.Prelude.{◌≡◌, ℕ, ◌+◌, ◌*◌, Bool, true, false, ℤ, pos, ◌+ℤ◌, neg_ℤ, ◌≤ℤ◌, int_le}
+use Rattle.std.proofs.Common.{ap, arith, add-mul}
 use Rattle.std.proofs.Math.IntN.{+ℤ_assoc, +ℤ_idl, +ℤ_idr}
 use Rattle.std.proofs.lemmas.Int.{ints}
 use Rattle.terms.specs.Numbers.{Near}
-use Rattle.fleet.specs.Scores.{Scale, Lawful, gain_scale, more_scale, fewer_scale, lexical}
+use Rattle.fleet.specs.Scores.{Scale, Lawful, turned, gain_scale, lots_scale, more_scale, fewer_scale, lexical}
 
 none_near : (k : ℕ) → Near (0 * k) (pos 0)
 none_near k = record { low = omega (arith, ints); high = omega (arith, ints) }
@@ -94,49 +94,40 @@ more_tops g q h k = let a = h.high in let b = k.high in grind (arith, ints)
 fewer_tops : (g q : ℤ) → Near (1 * 1000000000000) g → Near (1 * 500) q → lexical g (neg_ℤ (pos 500)) (pos 1000000000000) q ≡ true
 fewer_tops g q h k = let a = h.high in let b = k.low in grind (arith, ints)
 
-pub pair : {A B X : Type 0} (f : A → B → X) {a a' : A} {b b' : B} → a ≡ a' → b ≡ b' → f a b ≡ f a' b'
-pair f p q = cc
-
-pub more_lawful : Lawful more_scale
-more_lawful = record {
-  total = λ a b. lex_total a.gain a.lots b.gain b.lots;
-  chain = λ a b c. lex_chain a.gain a.lots b.gain b.lots c.gain c.lots;
-  one = λ a b h k. pair (λ g q. record { gain = g; lots = q }) (lex_first a.gain a.lots b.gain b.lots h k) (lex_second a.gain a.lots b.gain b.lots h k);
-  assoc = λ a b c. pair (λ g q. record { gain = g; lots = q }) (+ℤ_assoc a.gain b.gain c.gain) (+ℤ_assoc a.lots b.lots c.lots);
-  left = λ a. pair (λ g q. record { gain = g; lots = q }) (+ℤ_idl a.gain) (+ℤ_idl a.lots);
-  right = λ a. pair (λ g q. record { gain = g; lots = q }) (+ℤ_idr a.gain) (+ℤ_idr a.lots);
-  keeps_left = λ c a b. lex_left c.gain c.lots a.gain a.lots b.gain b.lots;
-  keeps_right = λ c a b. lex_right c.gain c.lots a.gain a.lots b.gain b.lots;
-  less_left = λ c a b. lex_less_left c.gain c.lots a.gain a.lots b.gain b.lots;
-  less_right = λ c a b. lex_less_right c.gain c.lots a.gain a.lots b.gain b.lots;
-  fits_largest = (one_near 1000000000000 (pos 1000000000000) (largest_near 1000000000000), one_near 500 (pos 500) (largest_near 500));
-  tops = λ a h. more_tops a.gain a.lots h.0 h.1;
-  fits_zero = (none_near 1000000000000, none_near 500);
-  fits_of = λ g q h. (one_near 1000000000000 g h.gain, one_near 500 q h.lots);
-  fits_add = λ m n a b h k. (sum_near 1000000000000 m n a.gain b.gain h.0 k.0, sum_near 500 m n a.lots b.lots h.1 k.1);
-}
-
 fewer_chain : (a x b y c z : ℤ) → lexical a y b x ≡ true → lexical b z c y ≡ true → lexical a z c x ≡ true
 fewer_chain a x b y c z h k = grind (arith, ints)
 
-pub fewer_lawful : Lawful fewer_scale
-fewer_lawful = record {
-  total = λ a b. lex_total a.gain b.lots b.gain a.lots;
-  chain = λ a b c h k. fewer_chain a.gain a.lots b.gain b.lots c.gain c.lots h k;
-  one = λ a b h k. pair (λ g q. record { gain = g; lots = q }) (lex_first a.gain b.lots b.gain a.lots h k) (sym (lex_second a.gain b.lots b.gain a.lots h k));
-  assoc = λ a b c. pair (λ g q. record { gain = g; lots = q }) (+ℤ_assoc a.gain b.gain c.gain) (+ℤ_assoc a.lots b.lots c.lots);
-  left = λ a. pair (λ g q. record { gain = g; lots = q }) (+ℤ_idl a.gain) (+ℤ_idl a.lots);
-  right = λ a. pair (λ g q. record { gain = g; lots = q }) (+ℤ_idr a.gain) (+ℤ_idr a.lots);
-  keeps_left = λ c a b. lex_left c.gain c.lots a.gain b.lots b.gain a.lots;
-  keeps_right = λ c a b. lex_right c.gain c.lots a.gain b.lots b.gain a.lots;
-  less_left = λ c a b. lex_less_left c.gain c.lots a.gain b.lots b.gain a.lots;
-  less_right = λ c a b. lex_less_right c.gain c.lots a.gain b.lots b.gain a.lots;
-  fits_largest = (one_near 1000000000000 (pos 1000000000000) (largest_near 1000000000000), one_near 500 (neg_ℤ (pos 500)) (lowest_near 500));
-  tops = λ a h. fewer_tops a.gain a.lots h.0 h.1;
+pub pair : {A B X : Type 0} (f : A → B → X) {a a' : A} {b b' : B} → a ≡ a' → b ≡ b' → f a b ≡ f a' b'
+pair f p q = cc
+
+turned_near : (fewer : Bool) (k : ℕ) (q : ℤ) → Near k q → Near k (turned fewer q)
+turned_near false k q h = h
+turned_near true k q h = record { low = omega (arith, ints); high = omega (arith, ints) }
+
+pub lots_lawful : {n : ℕ} (fewer : Bool) → Lawful (lots_scale {n = n} fewer)
+lots_lawful fewer = record {
+  total = λ a b. lex_total a.gain a.rank b.gain b.rank;
+  chain = λ a b c. lex_chain a.gain a.rank b.gain b.rank c.gain c.rank;
+  one = λ a b h k. pair (λ g q. record { gain = g; rank = q }) (lex_first a.gain a.rank b.gain b.rank h k) (lex_second a.gain a.rank b.gain b.rank h k);
+  assoc = λ a b c. pair (λ g q. record { gain = g; rank = q }) (+ℤ_assoc a.gain b.gain c.gain) (+ℤ_assoc a.rank b.rank c.rank);
+  left = λ a. pair (λ g q. record { gain = g; rank = q }) (+ℤ_idl a.gain) (+ℤ_idl a.rank);
+  right = λ a. pair (λ g q. record { gain = g; rank = q }) (+ℤ_idr a.gain) (+ℤ_idr a.rank);
+  keeps_left = λ c a b. lex_left c.gain c.rank a.gain a.rank b.gain b.rank;
+  keeps_right = λ c a b. lex_right c.gain c.rank a.gain a.rank b.gain b.rank;
+  less_left = λ c a b. lex_less_left c.gain c.rank a.gain a.rank b.gain b.rank;
+  less_right = λ c a b. lex_less_right c.gain c.rank a.gain a.rank b.gain b.rank;
+  fits_largest = (one_near 1000000000000 (pos 1000000000000) (largest_near 1000000000000), one_near 500 (pos 500) (largest_near 500));
+  tops = λ a h. more_tops a.gain a.rank h.0 h.1;
   fits_zero = (none_near 1000000000000, none_near 500);
-  fits_of = λ g q h. (one_near 1000000000000 g h.gain, one_near 500 q h.lots);
-  fits_add = λ m n a b h k. (sum_near 1000000000000 m n a.gain b.gain h.0 k.0, sum_near 500 m n a.lots b.lots h.1 k.1);
+  fits_of = λ g q h. (one_near 1000000000000 g h.gain, one_near 500 (turned fewer q) (turned_near fewer 500 q h.lots));
+  fits_add = λ m n a b h k. (sum_near 1000000000000 m n a.gain b.gain h.0 k.0, sum_near 500 m n a.rank b.rank h.1 k.1);
 }
+
+pub more_lawful : Lawful more_scale
+more_lawful = lots_lawful false
+
+pub fewer_lawful : Lawful fewer_scale
+fewer_lawful = lots_lawful true
 
 -- whole numbers, as the gain alone
 abbrev pub int_scale : Scale ℤ

@@ -1,9 +1,8 @@
--- What a score stands for, its laws, and the three scores. Assumes nothing.
+-- What a score stands for, its laws, and the scores. Assumes nothing.
 use Rattle.std.specs.Prelude.{◌≡◌, ℕ, ◌+◌, ◌*◌, Bool, true, false, cond, ℤ, pos, ◌+ℤ◌, neg_ℤ, int_le, int_lt}
 use Rattle.terms.specs.Numbers.{Near}
 use Rattle.fleet.specs.declared.scores.Gain.{Gain}
-use Rattle.fleet.specs.declared.scores.MoreLots.{MoreLots}
-use Rattle.fleet.specs.declared.scores.FewerLots.{FewerLots}
+use Rattle.fleet.specs.declared.scores.ByLots.{ByLots}
 
 pub record Scale (S : Type 0) : Type 1 where
   -- the score of an entry's gain and lots
@@ -61,22 +60,31 @@ gain_scale = record {
 abbrev pub lexical : ℤ → ℤ → ℤ → ℤ → Bool
 lexical a x b y = cond (int_lt a b) true (cond (int_lt b a) false (int_le x y))
 
-abbrev pub more_scale : Scale MoreLots
-more_scale = record {
-  of = λ g q. record { gain = g; lots = q };
-  zero = record { gain = pos 0; lots = pos 0 };
-  add = λ a b. record { gain = a.gain +ℤ b.gain; lots = a.lots +ℤ b.lots };
-  at_most = λ a b. lexical a.gain a.lots b.gain b.lots;
-  largest = record { gain = pos gain_limit; lots = pos lots_limit };
-  fits = λ k a. Near (k * gain_limit) a.gain × Near (k * lots_limit) a.lots;
+-- lots as they rank: where fewer are better, they count negative
+abbrev pub turned : Bool → ℤ → ℤ
+turned false q = q
+turned true q = neg_ℤ q
+
+-- the gain, and among equal gains more lots, or fewer
+abbrev pub lots_scale : {n : ℕ} → Bool → Scale (ByLots n)
+lots_scale fewer = record {
+  of = λ g q. record { gain = g; rank = turned fewer q };
+  zero = record { gain = pos 0; rank = pos 0 };
+  add = λ a b. record { gain = a.gain +ℤ b.gain; rank = a.rank +ℤ b.rank };
+  at_most = λ a b. lexical a.gain a.rank b.gain b.rank;
+  largest = record { gain = pos gain_limit; rank = pos lots_limit };
+  fits = λ k a. Near (k * gain_limit) a.gain × Near (k * lots_limit) a.rank;
 }
 
+-- the two types of it: FEWER is false, which counts as 0, or true, which counts as 1
+abbrev pub MoreLots : Type 0
+MoreLots = ByLots 0
+
+abbrev pub FewerLots : Type 0
+FewerLots = ByLots 1
+
+abbrev pub more_scale : Scale MoreLots
+more_scale = lots_scale false
+
 abbrev pub fewer_scale : Scale FewerLots
-fewer_scale = record {
-  of = λ g q. record { gain = g; lots = q };
-  zero = record { gain = pos 0; lots = pos 0 };
-  add = λ a b. record { gain = a.gain +ℤ b.gain; lots = a.lots +ℤ b.lots };
-  at_most = λ a b. lexical a.gain b.lots b.gain a.lots;
-  largest = record { gain = pos gain_limit; lots = neg_ℤ (pos lots_limit) };
-  fits = λ k a. Near (k * gain_limit) a.gain × Near (k * lots_limit) a.lots;
-}
+fewer_scale = lots_scale true

@@ -48,21 +48,14 @@ pub record Through {S : Type 0} (s : Scale S) (p : UnitModel) (r : Prices) (T t 
 abbrev pub Via : {S : Type 0} → Scale S → UnitModel → Prices → ℕ → ℕ → ℕ → ℕ → S → Type 0
 Via s p r T t a b x = (q : ℤ) × Through s p r T t a b q x
 
--- of period t, the slots of the states below i hold the best to go from there
-abbrev pub Below : {S : Type 0} → Scale S → UnitModel → Prices → ℕ → ℕ → ℕ → List (Option S) → Type 0
-Below s p r T t i slots = (a : ℕ) → a < i → Best s (ToGo s p r T t a) (slice_index_or slots (t * 80 + a) None)
+-- one slot for each state, which holds the best to go from there at period t
+pub record BestSlots {S : Type 0} (s : Scale S) (p : UnitModel) (r : Prices) (T t : ℕ) (slots : List (Option S)) : Type 0 where
+  pub long : length slots ≡ p.states
+  pub each : (a : ℕ) → a < p.states → Best s (ToGo s p r T t a) (slice_index_or slots a None)
 
--- the slots of period t hold it
-abbrev pub Row : {S : Type 0} → Scale S → UnitModel → Prices → ℕ → ℕ → List (Option S) → Type 0
-Row s p r T t slots = Below s p r T t p.states slots
-
--- the slots of period t and later hold it
-abbrev pub Rows : {S : Type 0} → Scale S → UnitModel → Prices → ℕ → ℕ → List (Option S) → Type 0
-Rows s p r T t slots = (u : ℕ) → t ≤ u → u ≤ T → Row s p r T u slots
-
--- the slots from a place on are as they were
-abbrev pub Kept : {S : Type 0} → ℕ → List (Option S) → List (Option S) → Type 0
-Kept start old new = (i : ℕ) → start ≤ i → slice_index_or new i None ≡ slice_index_or old i None
+-- in a table of 80 slots a period, those of period t and later hold it
+abbrev pub BestTable : {S : Type 0} → Scale S → UnitModel → Prices → ℕ → ℕ → List (Option S) → Type 0
+BestTable s p r T t table = (u a : ℕ) → t ≤ u → u ≤ T → a < p.states → Best s (ToGo s p r T u a) (slice_index_or table (u * 80 + a) None)
 
 -- an entry that attains x, the first in reading order
 pub record Step {S : Type 0} (s : Scale S) (p : UnitModel) (r : Prices) (T t a : ℕ) (x : S) (e : Entry) : Type 0 where

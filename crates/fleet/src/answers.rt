@@ -1,7 +1,7 @@
-// What is asked of a unit at a price row: its best gain, its supply, and its first best schedule.
+// What is asked of a unit at a price row: its best gain, its supply, and its first best schedule. Fleet, unit and row
+// stay parameters here: a caller has the three by themselves, and would build a struct for one call.
 ghost use Rattle.std.specs.Prelude.{◌≤◌, length};
-ghost use Rattle.terms.specs.Declines.{Says};
-ghost use Rattle.terms.specs.declared.decline.Layer.TheVariants.{Docket};
+ghost use Rattle.fleet.specs.Rows.{periods_of};
 ghost use Rattle.fleet.specs.Gains.{BestGainLaw, SupplyLaw, FirstLaw};
 ghost use Rattle.fleet.specs.Answers.{Room, Free, BestGainAnswer, SupplyAnswer, FirstBestAnswer};
 
@@ -9,32 +9,12 @@ use crate::fleets::Fleet;
 use crate::records::Entry;
 use crate::rows::PriceRow;
 use crate::scores::{FewerLots, Gain, MoreLots};
-use crate::search::{best, trace};
+use crate::search::{SLOTS, UnitDay};
 use terms::{Cause, Decline};
-
-// The slots of a work table: 80 states at the start of each of 48 periods and at the end of the day.
-pub const SLOTS: usize = 3920;
-
-fn too_little_room(unit: usize) -> Decline
-    ensures { Says Docket 30 unit result }
-{
-    Decline {
-        cause: Cause::TooLittleRoom,
-        place: unit,
-    }
-}
-
-fn no_schedule(unit: usize) -> Decline
-    ensures { Says Docket 32 unit result }
-{
-    Decline {
-        cause: Cause::NoSchedule,
-        place: unit,
-    }
-}
 
 // The most that any allowed schedule gains. Declined with 30 where the table is too short, then 32 where no schedule
 // is allowed.
+#[tactic(auto, using(crate::proofs::BestGains::best_gain_law))]
 pub fn best_gain<F: Fleet>(
     fleet: &F,
     unit: usize,
@@ -45,13 +25,8 @@ pub fn best_gain<F: Fleet>(
     ensures table { Free (Room (length table.old)) table.old table.new }
     ensures law { BestGainLaw }
 {
-    if table.len() < SLOTS {
-        return Err(too_little_room(unit));
-    }
-    match best(fleet, unit, row, table) {
-        Some(score) => Ok(score.gain),
-        None => Err(no_schedule(unit)),
-    }
+    let best: Gain = UnitDay { fleet, unit, row }.search(table)?;
+    Ok(best.gain)
 }
 
 // The best gain, with the fewest and the most lots among the schedules of that gain. Declined as the best gain is,
@@ -68,16 +43,13 @@ pub fn supply<F: Fleet>(
     ensures more { Free ((Room (length fewer.old)) × (Room (length more.old))) more.old more.new }
     ensures law { SupplyLaw }
 {
-    if fewer.len() < SLOTS || more.len() < SLOTS {
-        return Err(too_little_room(unit));
+    if more.len() < SLOTS {
+        return Err(Cause::TooLittleRoom.at(unit));
     }
-    let Some(least) = best(fleet, unit, row, fewer) else {
-        return Err(no_schedule(unit));
-    };
-    let Some(most) = best(fleet, unit, row, more) else {
-        return Err(no_schedule(unit));
-    };
-    Ok((least.gain, least.lots, most.lots))
+    let day = UnitDay { fleet, unit, row };
+    let least = day.search(fewer)?;
+    let most = day.search(more)?;
+    Ok((least.gain, least.lots(), most.lots()))
 }
 
 // Writes the best schedule that comes first in reading order. Declined as the best gain is, with 30 where the table or
@@ -90,15 +62,14 @@ pub fn first_best<F: Fleet>(
     out: &mut [Entry],
 ) -> Result<(), Decline>
     ensures first { FirstBestAnswer (F.Fleet.meaning fleet.now) unit row.now (length table.old) out.old out.new result }
-    ensures table { Free ((Room (length table.old)) × (row.now.periods ≤ length out.old)) table.old table.new }
+    ensures table { Free ((Room (length table.old)) × (periods_of row.now ≤ length out.old)) table.old table.new }
     ensures law { FirstLaw }
 {
-    if table.len() < SLOTS || out.len() < row.periods() {
-        return Err(too_little_room(unit));
+    if out.len() < row.periods() {
+        return Err(Cause::TooLittleRoom.at(unit));
     }
-    let Some(score) = best(fleet, unit, row, table) else {
-        return Err(no_schedule(unit));
-    };
-    trace(fleet, unit, row, score, table, out);
+    let day = UnitDay { fleet, unit, row };
+    let best = day.search(table)?;
+    day.trace(best, table, out);
     Ok(())
 }

@@ -20,7 +20,8 @@ pub trait Fleet {
     fn start(&self, unit: usize) -> usize
         ensures { result ≡ ((meaning self.now).model unit).start };
 
-    // Whether the unit may go from one state into another in a period, and if so with which outputs.
+    // Whether the unit may go from one state into another in a period, and if so with which outputs. The numbers of a
+    // question stay parameters: each kind of unit looks at some of them alone, and its rule is written of these.
     fn arc(&self, unit: usize, period: usize, from: usize, to: usize) -> Option<Range>
         ensures { result ≡ ((meaning self.now).model unit).arc period from to };
 

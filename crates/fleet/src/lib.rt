@@ -10,10 +10,11 @@ mod schedules;
 mod scores;
 mod search;
 
-pub use answers::{SLOTS, best_gain, first_best, supply};
+pub use answers::{best_gain, first_best, supply};
 pub use fleets::Fleet;
 pub use periods::Periods;
 pub use records::{Entry, Range};
 pub use rows::{NeedRow, PriceRow};
 pub use schedules::{Account, check_schedule};
-pub use scores::{FewerLots, Gain, MoreLots};
+pub use scores::{ByLots, FewerLots, Gain, MoreLots};
+pub use search::SLOTS;

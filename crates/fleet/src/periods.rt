@@ -2,7 +2,7 @@
 ghost use Rattle.std.specs.Prelude.{◌≡◌, ◌<◌, ◌≤◌, ◌⊎◌, MatchOption};
 
 // The number of periods of a day, 1 to 48.
-#[derive(Clone, Copy)]
+#[derive(Clone, Copy, PartialEq, Eq, Debug)]
 pub struct Periods {
     count: usize,
     ghost some: { 1 ≤ count },
@@ -14,7 +14,7 @@ impl Periods {
     pub fn new(count: usize) -> Option<Periods>
         ensures { MatchOption result ((count < 1) ⊎ (48 < count)) (λ p. p.count ≡ count) }
     {
-        if count < 1 || count > 48 {
+        if !(1..=48).contains(&count) {
             return None;
         }
         Some(Periods { count })

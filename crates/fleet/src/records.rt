@@ -2,8 +2,9 @@
 ghost use Rattle.std.specs.Prelude.{◌≡◌};
 ghost use Rattle.fleet.specs.Units.{among};
 
-// The outputs of an arc: from the lowest to the highest.
-#[derive(Clone, Copy)]
+// The outputs of an arc: from the lowest to the highest. A plain record, as the project has arcs answered: a
+// `RangeInclusive` is no `Copy`, and also says how much of it was gone through.
+#[derive(Clone, Copy, PartialEq, Eq, Debug)]
 pub struct Range {
     pub lo: i32,
     pub hi: i32,
@@ -14,12 +15,12 @@ impl Range {
     pub fn contains(self, output: i32) -> bool
         ensures { result ≡ among self output }
     {
-        self.lo <= output && output <= self.hi
+        (self.lo..=self.hi).contains(&output)
     }
 }
 
 // One period of a schedule: the state that the unit goes into, and its output.
-#[derive(Clone, Copy)]
+#[derive(Clone, Copy, PartialEq, Eq, Debug)]
 pub struct Entry {
     pub state: usize,
     pub output: i32,

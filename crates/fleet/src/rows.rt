@@ -4,23 +4,27 @@ ghost use Rattle.terms.specs.Numbers.{near};
 
 mod make;
 
+// Numbers within ±LIMIT, one for each period of a day. An array with a length: a docket allocates nothing, and price
+// and need rows are `Copy`, which an `ArrayVec` is not.
+#[derive(Clone, Copy, PartialEq, Eq, Debug)]
+pub struct Row<const LIMIT: u32> {
+    periods: usize,
+    numbers: [i32; 48],
+    ghost short: { periods ≤ 48 },
+    ghost bounded: { (k : ℕ) → k < periods → near LIMIT (slice_index_or numbers k (pos 0)) ≡ true },
+}
+
 // A price row: the price of a period is its numerator over the common denominator, in cents a lot.
-#[derive(Clone, Copy)]
+#[derive(Clone, Copy, PartialEq, Eq, Debug)]
 pub struct PriceRow {
     over: u32,
-    periods: usize,
-    numerators: [i32; 48],
+    numerators: Row<1_000_000_000>,
     ghost low: { 1 ≤ over },
     ghost high: { over ≤ 1000 },
-    ghost short: { periods ≤ 48 },
-    ghost bounded: { (k : ℕ) → k < periods → near 1000000000 (slice_index_or numerators k (pos 0)) ≡ true },
 }
 
 // The wanted lots of each period.
-#[derive(Clone, Copy)]
+#[derive(Clone, Copy, PartialEq, Eq, Debug)]
 pub struct NeedRow {
-    periods: usize,
-    wanted: [i32; 48],
-    ghost short: { periods ≤ 48 },
-    ghost bounded: { (k : ℕ) → k < periods → near 32000 (slice_index_or wanted k (pos 0)) ≡ true },
+    wanted: Row<32_000>,
 }

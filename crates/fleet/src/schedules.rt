@@ -1,8 +1,6 @@
 // The schedule check.
 ghost use Rattle.std.specs.Prelude.{◌≡◌, ◌≤◌, ℤ, pos, ◌-ℤ◌, ◌*ℤ◌};
-ghost use Rattle.terms.specs.Declines.{Says};
 ghost use Rattle.terms.specs.Numbers.{Near};
-ghost use Rattle.terms.specs.declared.decline.Layer.TheVariants.{Docket};
 ghost use Rattle.fleet.specs.Rows.{prices_of};
 ghost use Rattle.fleet.specs.Answers.{Checked};
 
@@ -12,7 +10,7 @@ use crate::rows::PriceRow;
 use terms::{Cause, Decline};
 
 // What a schedule comes to: its cost in cents, its gain in cents over the row's denominator.
-#[derive(Clone, Copy)]
+#[derive(Clone, Copy, PartialEq, Eq, Debug)]
 pub struct Account {
     pub cost: i64,
     pub gain: i64,
@@ -27,20 +25,11 @@ pub(crate) fn gain_of(numerator: i32, output: i32, over: u32, cost: i32) -> i64
     ensures gain { result ≡ (numerator *ℤ output) -ℤ (pos over *ℤ cost) }
     ensures bounded { Near 1000000000000 result }
 {
-    numerator as i64 * output as i64 - over as i64 * cost as i64
+    i64::from(numerator) * i64::from(output) - i64::from(over) * i64::from(cost)
 }
 
-fn not_allowed(place: usize) -> Decline
-    ensures { Says Docket 27 place result }
-{
-    Decline {
-        cause: Cause::ScheduleNotAllowed,
-        place,
-    }
-}
-
-// The cost and gain of an allowed schedule. Declined with 27 at the first period without an arc that contains its
-// output, or at the end where only that fails.
+// The cost and gain of an allowed schedule, asked of fleet, unit and row as the searches are. Declined with 27 at the
+// first period without an arc that contains its output, or at the end where only that fails.
 pub fn check_schedule<F: Fleet>(
     fleet: &F,
     unit: usize,
@@ -53,15 +42,16 @@ pub fn check_schedule<F: Fleet>(
     let mut period = 0;
     let mut cost = 0;
     let mut gain = 0;
+    // The project has the arc taken by let-else, and the period counted beside the entries.
     for step in schedule {
         let Some(range) = fleet.arc(unit, period, state, step.state) else {
-            return Err(not_allowed(period));
+            return Err(Cause::ScheduleNotAllowed.at(period));
         };
         if !range.contains(step.output) {
-            return Err(not_allowed(period));
+            return Err(Cause::ScheduleNotAllowed.at(period));
         }
         let paid = fleet.cost(unit, period, state, step.state, step.output);
-        cost += paid as i64;
+        cost += i64::from(paid);
         gain += gain_of(row.numerator(period), step.output, row.over(), paid);
         state = step.state;
         period += 1;
@@ -69,6 +59,6 @@ pub fn check_schedule<F: Fleet>(
     if fleet.may_end(unit, state) {
         Ok(Account { cost, gain })
     } else {
-        Err(not_allowed(period))
+        Err(Cause::ScheduleNotAllowed.at(period))
     }
 }

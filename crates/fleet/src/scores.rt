@@ -1,10 +1,13 @@
 // Scores: what the search maximises.
 ghost use Rattle.std.specs.Prelude.{◌≡◌, ℕ, ◌<◌};
-ghost use Rattle.fleet.specs.Scores.{Scale, Lawful, gain_scale, more_scale, fewer_scale};
-ghost use Rattle.fleet.specs.ScoreLaws.{gain_lawful, more_lawful, fewer_lawful};
+ghost use Rattle.std.specs.Ordering.{partial_le};
+ghost use Rattle.std.proofs.Common.{rules};
+ghost use Rattle.terms.specs.Numbers.{Near};
+ghost use Rattle.fleet.specs.Scores.{Scale, Lawful, turned, gain_scale, lots_scale};
+ghost use Rattle.fleet.specs.ScoreLaws.{gain_lawful, lots_lawful};
 
 // A score is made of an entry's gain and lots, and is added up over the day. Its scale says what it stands for.
-pub trait Score: Copy {
+pub trait Score: Copy + Ord {
     ghost scale: { Scale Self };
 
     fn of(gain: i64, lots: i32) -> Self
@@ -23,14 +26,14 @@ pub trait Score: Copy {
         requires { (k : ℕ) × (k < 48) × scale.fits 1 self × scale.fits k other }
         ensures { result ≡ scale.add self other };
 
-    fn at_most(self, other: Self) -> bool
-        ensures { result ≡ scale.at_most self other };
-
     ghost lawful: { Lawful scale };
+
+    // The scale's order is that of `<=`.
+    ghost ordered: { (a b : Self) → partial_le Self.partial_cmp a b ≡ scale.at_most a b };
 }
 
 // The gain alone.
-#[derive(Clone, Copy)]
+#[derive(Clone, Copy, PartialEq, Eq, PartialOrd, Ord, Debug)]
 pub struct Gain {
     pub(crate) gain: i64,
 }
@@ -39,6 +42,8 @@ impl Score for Gain {
     ghost scale = { gain_scale };
 
     ghost lawful = { gain_lawful };
+
+    ghost ordered = { Prim.search rules };
 
     fn of(gain: i64, lots: i32) -> Gain {
         let _ = lots;
@@ -60,92 +65,58 @@ impl Score for Gain {
             gain: self.gain + other.gain,
         }
     }
-
-    fn at_most(self, other: Gain) -> bool {
-        self.gain <= other.gain
-    }
 }
 
-// The gain, and among equal gains more lots.
-#[derive(Clone, Copy)]
-pub struct MoreLots {
+// The gain, and among equal gains the lots: more are better, or fewer, which then count negative.
+#[derive(Clone, Copy, PartialEq, Eq, PartialOrd, Ord, Debug)]
+pub struct ByLots<const FEWER: bool> {
     pub(crate) gain: i64,
-    pub(crate) lots: i64,
+    rank: i64,
 }
 
-impl Score for MoreLots {
-    ghost scale = { more_scale };
+pub type MoreLots = ByLots<false>;
 
-    ghost lawful = { more_lawful };
+pub type FewerLots = ByLots<true>;
 
-    fn of(gain: i64, lots: i32) -> MoreLots {
-        MoreLots {
+impl<const FEWER: bool> ByLots<FEWER> {
+    pub(crate) fn lots(&self) -> i64
+        requires { Near 24000 self.now.rank }
+        ensures { result ≡ turned FEWER self.now.rank }
+    {
+        if FEWER { -self.rank } else { self.rank }
+    }
+}
+
+impl<const FEWER: bool> Score for ByLots<FEWER> {
+    ghost scale = { lots_scale FEWER };
+
+    ghost lawful = { lots_lawful FEWER };
+
+    ghost ordered = { Prim.search rules };
+
+    fn of(gain: i64, lots: i32) -> Self {
+        let lots = i64::from(lots);
+        ByLots {
             gain,
-            lots: lots as i64,
+            rank: if FEWER { -lots } else { lots },
         }
     }
 
-    fn zero() -> MoreLots {
-        MoreLots { gain: 0, lots: 0 }
+    fn zero() -> Self {
+        ByLots { gain: 0, rank: 0 }
     }
 
-    fn largest() -> MoreLots {
-        MoreLots {
+    fn largest() -> Self {
+        ByLots {
             gain: 1_000_000_000_000,
-            lots: 500,
+            rank: 500,
         }
     }
 
-    fn plus(self, other: MoreLots) -> MoreLots {
-        MoreLots {
+    fn plus(self, other: Self) -> Self {
+        ByLots {
             gain: self.gain + other.gain,
-            lots: self.lots + other.lots,
+            rank: self.rank + other.rank,
         }
-    }
-
-    fn at_most(self, other: MoreLots) -> bool {
-        self.gain < other.gain || self.gain == other.gain && self.lots <= other.lots
-    }
-}
-
-// The gain, and among equal gains fewer lots.
-#[derive(Clone, Copy)]
-pub struct FewerLots {
-    pub(crate) gain: i64,
-    pub(crate) lots: i64,
-}
-
-impl Score for FewerLots {
-    ghost scale = { fewer_scale };
-
-    ghost lawful = { fewer_lawful };
-
-    fn of(gain: i64, lots: i32) -> FewerLots {
-        FewerLots {
-            gain,
-            lots: lots as i64,
-        }
-    }
-
-    fn zero() -> FewerLots {
-        FewerLots { gain: 0, lots: 0 }
-    }
-
-    fn largest() -> FewerLots {
-        FewerLots {
-            gain: 1_000_000_000_000,
-            lots: -500,
-        }
-    }
-
-    fn plus(self, other: FewerLots) -> FewerLots {
-        FewerLots {
-            gain: self.gain + other.gain,
-            lots: self.lots + other.lots,
-        }
-    }
-
-    fn at_most(self, other: FewerLots) -> bool {
-        self.gain < other.gain || self.gain == other.gain && other.lots <= self.lots
     }
 }

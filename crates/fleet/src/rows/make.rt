@@ -1,77 +1,75 @@
 // Making and reading checked rows.
-ghost use Rattle.std.specs.Prelude.{◌≡◌, ◌≤◌, length, take, pos, None, slice_index_or};
-ghost use Rattle.std.specs.List.{prefix_len};
+ghost use Rattle.std.specs.Prelude.{◌≡◌, ◌≤◌, length, take, pos, None, position, not, slice_index_or};
 ghost use Rattle.terms.specs.Numbers.{near};
-ghost use Rattle.fleet.specs.Rows.{Made, PriceRowOf, NeedRowOf, row_fault, price_fault, need_fault, prices_of, wanted_of, PriceRowLaw, NeedRowLaw};
+ghost use Rattle.fleet.specs.Rows.{Made, RowOf, PriceRowOf, NeedRowOf, row_fault, price_fault, need_fault, numbers_of, prices_of, periods_of, wanted_of, PriceRowLaw, NeedRowLaw};
 ghost use Rattle.fleet.specs.Schedules.{numerator_at};
 
 use crate::periods::Periods;
-use crate::rows::{NeedRow, PriceRow};
+use crate::rows::{NeedRow, PriceRow, Row};
 use terms::{Cause, Decline, is_near};
 
-// The first period whose number lies beyond the limit, or the row's length.
-fn first_beyond(limit: u32, row: &[i32]) -> usize
-    ensures { result ≡ prefix_len (near limit) row.now }
+// The first period whose number lies beyond the limit.
+fn first_beyond(limit: u32, numbers: &[i32]) -> Option<usize>
+    ensures { result ≡ position (λ z. not (near limit z)) numbers.now }
 {
-    for (period, number) in row.iter().enumerate() {
-        if !is_near(limit, *number) {
-            return period;
-        }
-    }
-    row.len()
+    numbers.iter().position(|number| !is_near(limit, *number))
 }
 
-// 22 where the row is not of the day's length, 23 at the first number beyond the limit.
-fn check_row(periods: usize, limit: u32, row: &[i32]) -> Result<(), Decline>
-    ensures { Made (row_fault periods limit row.now None) (λ _. Unit {0}) result }
-{
-    if row.len() != periods {
-        return Err(Decline {
-            cause: Cause::RowLength,
-            place: 0,
-        });
-    }
-    let place = first_beyond(limit, row);
-    if place < row.len() {
-        return Err(Decline {
-            cause: Cause::RowValue,
-            place,
-        });
-    }
-    Ok(())
-}
-
-fn padded(row: &[i32]) -> [i32; 48]
-    requires { length row.now ≤ 48 }
-    ensures { take (length row.now) result ≡ row.now }
+fn padded(numbers: &[i32]) -> [i32; 48]
+    requires { length numbers.now ≤ 48 }
+    ensures { take (length numbers.now) result ≡ numbers.now }
 {
     let mut all = [0; 48];
-    for period in 0..row.len() {
-        all[period] = row[period];
-    }
+    all[..numbers.len()].copy_from_slice(numbers);
     all
+}
+
+impl<const LIMIT: u32> Row<LIMIT> {
+    // Declined with 22 where the numbers are not as many as the day's periods, then 23 at the first beyond the limit.
+    pub(crate) fn new(periods: Periods, numbers: &[i32]) -> Result<Row<LIMIT>, Decline>
+        ensures { Made (row_fault periods.count LIMIT numbers.now None) (RowOf periods.count numbers.now) result }
+    {
+        let periods = periods.count();
+        if numbers.len() != periods {
+            return Err(Cause::RowLength.at(0));
+        }
+        if let Some(place) = first_beyond(LIMIT, numbers) {
+            return Err(Cause::RowValue.at(place));
+        }
+        let numbers = padded(numbers);
+        Ok(Row { periods, numbers })
+    }
+
+    // The number of periods of the day.
+    pub(crate) fn periods(&self) -> usize
+        ensures { result ≡ self.now.periods }
+    {
+        self.periods
+    }
+
+    // The number of a period, 0 past the end.
+    pub(crate) fn at(&self, period: usize) -> i32
+        ensures { result ≡ slice_index_or (numbers_of self.now) period (pos 0) }
+    {
+        self.numbers[..self.periods]
+            .get(period)
+            .copied()
+            .unwrap_or(0)
+    }
 }
 
 impl PriceRow {
     // A row of a day's prices. Declined with 22, then 23 at a numerator, then 23 at the day's length for the denominator.
+    #[tactic(auto, using(crate::proofs::RowLaws::price_row_law))]
     pub fn new(periods: Periods, over: u32, numerators: &[i32]) -> Result<PriceRow, Decline>
         ensures made { Made (price_fault periods.count over numerators.now) (PriceRowOf periods.count over numerators.now) result }
         ensures law { PriceRowLaw }
     {
-        let periods = periods.count();
-        check_row(periods, 1_000_000_000, numerators)?;
-        if over < 1 || over > 1000 {
-            return Err(Decline {
-                cause: Cause::RowValue,
-                place: periods,
-            });
+        let numerators = Row::new(periods, numerators)?;
+        if !(1..=1000).contains(&over) {
+            return Err(Cause::RowValue.at(periods.count()));
         }
-        let numerators = padded(numerators);
-        Ok(PriceRow {
-            over,
-            periods,
-            numerators,
-        })
+        Ok(PriceRow { over, numerators })
     }
 
     // The common denominator of the prices.
@@ -83,43 +81,34 @@ impl PriceRow {
 
     // The number of periods of the day.
     pub fn periods(&self) -> usize
-        ensures { result ≡ self.now.periods }
+        ensures { result ≡ periods_of self.now }
     {
-        self.periods
+        self.numerators.periods()
     }
 
     // The numerator of a period, 0 past the end.
     pub(crate) fn numerator(&self, period: usize) -> i32
         ensures { result ≡ numerator_at (prices_of self.now) period }
     {
-        if period < self.periods {
-            self.numerators[period]
-        } else {
-            0
-        }
+        self.numerators.at(period)
     }
 }
 
 impl NeedRow {
     // A row of a day's wanted lots. Declined with 22, then 23.
+    #[tactic(auto, using(crate::proofs::RowLaws::need_row_law))]
     pub fn new(periods: Periods, wanted: &[i32]) -> Result<NeedRow, Decline>
         ensures made { Made (need_fault periods.count wanted.now) (NeedRowOf periods.count wanted.now) result }
         ensures law { NeedRowLaw }
     {
-        let periods = periods.count();
-        check_row(periods, 32_000, wanted)?;
-        let wanted = padded(wanted);
-        Ok(NeedRow { periods, wanted })
+        let wanted = Row::new(periods, wanted)?;
+        Ok(NeedRow { wanted })
     }
 
     // The wanted lots of a period, 0 past the end.
     pub fn wanted(&self, period: usize) -> i32
         ensures { result ≡ slice_index_or (wanted_of self.now) period (pos 0) }
     {
-        if period < self.periods {
-            self.wanted[period]
-        } else {
-            0
-        }
+        self.wanted.at(period)
     }
 }

@@ -19,7 +19,7 @@ overflow_sub-result c =
     let k64 : SFits w64 k = fits_64 500000000 k (lit< tt) c.requires.cost in
     let nq : SFits w64 (n *ℤ q) = fits_64 500000000000 (n *ℤ q) (lit< tt) (near_mul 1000000000 500 n q c.requires.numerator c.requires.output) in
     let dk : SFits w64 (pos d *ℤ k) = fits_64 500000000000 (pos d *ℤ k) (lit< tt) (near_mul 1000 500000000 (pos d) k (near_pos 1000 d c.requires.over) c.requires.cost) in
-    simp (to_z-of_z, to_z_pos) (fits_64 1000000000000 ((n *ℤ q) -ℤ (pos d *ℤ k)) (lit< tt) (near_gain n q d k c.requires.numerator c.requires.output c.requires.over c.requires.cost))
+    rw (c.from.ensures, c.from-2.ensures, c.from-3.ensures, c.from-4.ensures) (simp (to_z-of_z, to_z_pos) (fits_64 1000000000000 ((n *ℤ q) -ℤ (pos d *ℤ k)) (lit< tt) (near_gain n q d k c.requires.numerator c.requires.output c.requires.over c.requires.cost)))
 
 pub returns : goal.returns
 returns c =
@@ -38,13 +38,4 @@ returns c =
     let dk : SFits w64 (pos d *ℤ k) = fits_64 500000000000 (pos d *ℤ k) (lit< tt) (near_mul 1000 500000000 (pos d) k (near_pos 1000 d c.requires.over) c.requires.cost) in
     let near = near_gain n q d k c.requires.numerator c.requires.output c.requires.over c.requires.cost in
     let all : SFits w64 ((n *ℤ q) -ℤ (pos d *ℤ k)) = fits_64 1000000000000 ((n *ℤ q) -ℤ (pos d *ℤ k)) (lit< tt) near in
-    record { gain = simp (to_z-of_z, to_z_pos); bounded = simp (to_z-of_z, to_z_pos) near }
-
-pub overflow_mul-result-2 : goal.overflow_mul-result-2
-overflow_mul-result-2 c =
-    let d = c.args.over in
-    let k = c.args.cost in
-    let k32 : SFits w32 k = c.ranges.cost in
-    let few : d < 2 ^ 63 = omega arith in
-    let k64 : SFits w64 k = fits_64 500000000 k (lit< tt) c.requires.cost in
-    simp (to_z-of_z, to_z_pos) (fits_64 500000000000 (pos d *ℤ k) (lit< tt) (near_mul 1000 500000000 (pos d) k (near_pos 1000 d c.requires.over) c.requires.cost))
+    record { gain = rw (c.from.ensures, c.from-2.ensures, c.from-3.ensures, c.from-4.ensures) (simp (to_z-of_z, to_z_pos)); bounded = rw (c.from.ensures, c.from-2.ensures, c.from-3.ensures, c.from-4.ensures) (simp (to_z-of_z, to_z_pos) near) }

@@ -1,7 +1,0 @@
-use Rattle.std.proofs.Common.{arith}
-use Rattle.std.proofs.lemmas.Int.{ints}
-use Rattle.fleet.specs.ScoreLaws.{pair}
-use Rattle.fleet.proofs.scores.MoreLotsScore.plus.Goals as goal
-
-pub returns : goal.returns
-returns c = let h = c.requires in pair (λ x y. record { gain = x; lots = y }) (omega (arith, ints)) (omega (arith, ints))

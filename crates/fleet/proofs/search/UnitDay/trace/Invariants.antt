@@ -1,0 +1,6 @@
+use Rattle.fleet.specs.Rows.{prices_of, periods_of}
+use Rattle.fleet.proofs.Traces.{Showing}
+use Rattle.fleet.proofs.search.UnitDay.trace.Given as goal
+
+abbrev pub invariant-loop-period : goal.invariant-loop-period
+invariant-loop-period g l = Showing g.S.Score.scale ((g.F.Fleet.meaning l.self.fleet.now).model l.self.unit) (prices_of l.self.row.now) (periods_of l.self.row.now) l.initial.to_go l.period l.state l.to_go l.entry-items
