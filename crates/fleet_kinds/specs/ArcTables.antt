@@ -1,5 +1,6 @@
 -- What an arc table means. Assumes nothing.
-use Rattle.std.specs.Prelude.{ℕ, min, Bool, cond, ◌&&◌, List, [], ◌∷◌, ℤ, pos, ◌+ℤ◌, ◌*ℤ◌, neg_ℤ, Some, None, Option, ◌==◌, int_le, nat_lt}
+use Rattle.std.specs.Prelude.{ℕ, min, Bool, cond, ◌&&◌, List, ℤ, pos, ◌+ℤ◌, ◌*ℤ◌, neg_ℤ, Some, None, Option, ◌==◌, int_le, nat_lt}
+use Rattle.std.specs.List.{find}
 use Rattle.terms.specs.Numbers.{near}
 use Rattle.fleet.specs.declared.records.Range.{Range}
 use Rattle.fleet.specs.Units.{UnitModel, Meaning, among}
@@ -26,14 +27,9 @@ about u t a b r = r.unit == u && (r.period == t && (r.from == a && r.to == b))
 abbrev pub is_for : ℕ → ℕ → ℕ → ℕ → ℕ → ArcRow → Bool
 is_for n u t a b r = heeded n r && about u t a b r
 
--- the first of a list that passes a test
-abbrev pub first_of : {X : Type 0} → (X → Bool) → List X → Option X
-first_of f [] = None
-first_of f (x ∷ xs) = cond (f x) (Some x) (first_of f xs)
-
 -- the row that counts: of the heeded rows for these, the first
 abbrev pub row_for : ℕ → List ArcRow → ℕ → ℕ → ℕ → ℕ → Option ArcRow
-row_for n rows u t a b = first_of (is_for n u t a b) rows
+row_for n rows u t a b = find (is_for n u t a b) rows
 
 abbrev pub row_range : ArcRow → Range
 row_range r = record { lo = r.lo; hi = r.hi }

@@ -1,16 +1,18 @@
 -- What heeded rows keep, and that an arc table is sound. Assumes nothing.
-use Rattle.std.specs.Prelude.{◌≡◌, ℕ, ◌<◌, ◌≤◌, min, Bool, true, false, cond, ◌&&◌, List, [], ◌∷◌, ℤ, pos, ◌+ℤ◌, ◌*ℤ◌, neg_ℤ, ◌≤ℤ◌, Some, None, Option, ◌==◌, int_le, nat_lt, refl}
+use Rattle.std.specs.Prelude.{◌≡◌, ℕ, ◌<◌, ◌≤◌, min, Bool, true, false, cond, ◌&&◌, List, [], ◌∷◌, ℤ, pos, ◌+ℤ◌, ◌*ℤ◌, neg_ℤ, ◌≤ℤ◌, Some, None, Option, IfSome, ◌==◌, int_le, nat_lt, refl}
+use Rattle.std.specs.List.{find}
 use Rattle.std.proofs.Common.{sym, subst, ◌∙◌, ⊎_elim, arith}
 use Rattle.std.proofs.lemmas.Int.{ints}
 use Rattle.std.proofs.lemmas.Bool.{cases_Bool, cond-true, cond-false, and_parts, and_left, le-ltb}
 use Rattle.std.proofs.lemmas.Bool.Decides.{nat_tests}
+use Rattle.std.proofs.lemmas.Option.{same_Some}
 use Rattle.terms.specs.Numbers.{Near, near}
 use Rattle.terms.proofs.Ints.{test_le}
 use Rattle.terms.proofs.Bounds.{near_test, near_mul, near_add, near_zero, near_between}
 use Rattle.fleet.specs.Units.{SoundUnit, Sound, SoundArc, among, holds}
 use Rattle.fleet.proofs.Arcs.{among_low, among_high}
 use Rattle.fleet_kinds.specs.declared.rows.ArcRow.{ArcRow}
-use Rattle.fleet_kinds.specs.ArcTables.{existing, ranged, heeded, is_for, first_of, row_for, row_range, range_of, cost_on, table_unit, table_meaning}
+use Rattle.fleet_kinds.specs.ArcTables.{existing, ranged, bounded, heeded, is_for, row_for, row_range, range_of, cost_on, table_unit, table_meaning}
 
 -- a heeded row for this unit, period and these states
 pub record HeededFor (n u t a b : ℕ) (r : ArcRow) : Type 0 where
@@ -56,20 +58,24 @@ heeded_for n u t a b r h =
       to = same_below r.to b 80 a3.1 e3.1;
     }
 
-some_same : {X : Type 0} (x y : X) → Some x ≡ Some y → x ≡ y
-some_same x y e = cc
-
 -- the first that passes does pass
-pub first_passes : {X : Type 0} (f : X → Bool) (xs : List X) (x : X) → first_of f xs ≡ Some x → f x ≡ true
+pub first_passes : {X : Type 0} (f : X → Bool) (xs : List X) (x : X) → find f xs ≡ Some x → f x ≡ true
 first_passes f [] x e = let z : ◌≡◌ {A = ℕ} 0 1 = cc in absurd (omega arith)
 first_passes f (y ∷ xs) x e =
     ⊎_elim
-    (λ h. subst (λ z. f z ≡ true) (some_same y x (sym (cond-true (f y) (Some y) (first_of f xs) h) ∙ e)) h)
-    (λ h. first_passes f xs x (sym (cond-false (f y) (Some y) (first_of f xs) h) ∙ e))
+    (λ h. subst (λ z. f z ≡ true) (same_Some y x (sym (cond-true (f y) (Some y) (find f xs) h) ∙ e)) h)
+    (λ h. first_passes f xs x (sym (cond-false (f y) (Some y) (find f xs) h) ∙ e))
     (cases_Bool (f y))
 
 pub row_heeded : (n : ℕ) (rows : List ArcRow) (u t a b : ℕ) (r : ArcRow) → row_for n rows u t a b ≡ Some r → HeededFor n u t a b r
 row_heeded n rows u t a b r e = heeded_for n u t a b r (first_passes (is_for n u t a b) rows r e)
+
+-- what counts is within the bounds
+pub row_within : (n : ℕ) (rows : List ArcRow) (u t a b : ℕ) (o : Option ArcRow) → o ≡ row_for n rows u t a b → IfSome o (λ r. (ranged r && bounded r) ≡ true)
+row_within n rows u t a b None e = tt
+row_within n rows u t a b (Some r) e =
+    let k = and_parts (heeded n r) _ (first_passes (is_for n u t a b) rows r (sym e)) in
+    (and_parts (existing n r) _ k.0).1
 
 module _ (n u t a b : ℕ) where
   arc_sound : (o : Option ArcRow) → ((r : ArcRow) → o ≡ Some r → HeededFor n u t a b r) → SoundArc (range_of o)

@@ -1,5 +1,6 @@
 -- What a fleet under outages means, and what adding one does. Assumes nothing.
-use Rattle.std.specs.Prelude.{ℕ, Bool, true, false, cond, ◌&&◌, List, [], ◌∷◌, pos, Some, None, Ok, Err, Option, Result, ◌==◌, nat_le, nat_lt}
+use Rattle.std.specs.Prelude.{ℕ, Bool, cond, ◌&&◌, List, pos, Some, None, Ok, Err, Option, Result, ◌==◌, nat_le, nat_lt}
+use Rattle.std.specs.List.{list_any}
 use Rattle.terms.specs.Declines.{Says}
 use Rattle.terms.specs.declared.decline.Decline.{Decline}
 use Rattle.terms.specs.declared.decline.Layer.TheVariants.{Fleet}
@@ -12,8 +13,7 @@ covers u t o = o.unit == u && (nat_le o.first t && nat_le t o.last)
 
 -- one of the outages has the unit out in the period
 abbrev pub out : List Outage → ℕ → ℕ → Bool
-out [] u t = false
-out (o ∷ os) u t = cond (covers u t o) true (out os u t)
+out os u t = list_any (covers u t) os
 
 -- 0 to 0, where the arc contains 0
 abbrev pub only_zero : Option Range → Option Range

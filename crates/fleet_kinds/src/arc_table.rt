@@ -1,13 +1,13 @@
 // A fleet given by listed rows.
-ghost use Rattle.std.specs.Prelude.{◌≡◌, min};
-ghost use Rattle.fleet_kinds.specs.ArcTables.{row_for, table_meaning};
+ghost use Rattle.std.specs.Prelude.{◌≡◌, ◌&&◌, true, min, IfSome};
+ghost use Rattle.fleet_kinds.specs.ArcTables.{ranged, bounded, row_for, table_meaning};
 ghost use Rattle.fleet_kinds.specs.Heeded.{table_sound};
 
-use crate::rows::{ArcRow, cost_of, row_for};
+use crate::rows::{ArcKey, ArcRow};
 use fleet::{Fleet, Range};
 
 // A number of units, more than 64 counting as 64, and rows. Each unit has 80 states, starts in 0 and may end in every one.
-// A question walks the rows from the first.
+// A question is answered from the first row that counts for it.
 #[derive(Drop)]
 pub struct ArcTable {
     count: usize,
@@ -21,10 +21,19 @@ impl ArcTable {
         ArcTable { count, rows }
     }
 
+    // The row that counts: the first heeded one for the unit, period and states.
     fn row(&self, unit: usize, period: usize, from: usize, to: usize) -> Option<ArcRow>
-        ensures { result ≡ row_for (min self.now.count 64) self.now.rows.items unit period from to }
+        ensures row { result ≡ row_for (min self.now.count 64) self.now.rows.items unit period from to }
+        ensures within { IfSome result (λ row. (ranged row && bounded row) ≡ true) }
     {
-        row_for(self.count.min(64), &self.rows, unit, period, from, to)
+        let units = self.units();
+        let key = ArcKey {
+            unit,
+            period,
+            from,
+            to,
+        };
+        self.rows.iter().find(|row| row.is_for(units, key)).copied()
     }
 }
 
@@ -38,7 +47,7 @@ impl Fleet for ArcTable {
     }
 
     fn states(&self, unit: usize) -> usize {
-        if unit < self.count.min(64) { 80 } else { 1 }
+        if unit < self.units() { 80 } else { 1 }
     }
 
     fn start(&self, unit: usize) -> usize {
@@ -47,24 +56,15 @@ impl Fleet for ArcTable {
     }
 
     fn arc(&self, unit: usize, period: usize, from: usize, to: usize) -> Option<Range> {
-        match self.row(unit, period, from, to) {
-            Some(row) => Some(row.range()),
-            None => None,
-        }
+        self.row(unit, period, from, to).map(|row| row.range())
     }
 
     fn cost(&self, unit: usize, period: usize, from: usize, to: usize, output: i32) -> i32 {
-        let Some(row) = self.row(unit, period, from, to) else {
-            return 0;
-        };
-        if row.range().contains(output) {
-            cost_of(row.base, row.rate, output)
-        } else {
-            0
-        }
+        self.row(unit, period, from, to)
+            .map_or(0, |row| row.cost(output))
     }
 
     fn may_end(&self, unit: usize, state: usize) -> bool {
-        unit < self.count.min(64) && state < 80
+        unit < self.units() && state < 80
     }
 }

@@ -1,13 +1,12 @@
 // The rows of an arc table.
-ghost use Rattle.std.specs.Prelude.{◌≡◌, ◌+ℤ◌, ◌*ℤ◌};
-ghost use Rattle.terms.specs.Numbers.{Near};
-ghost use Rattle.fleet_kinds.specs.ArcTables.{existing, ranged, bounded, heeded, about, is_for, row_for, row_range};
+ghost use Rattle.std.specs.Prelude.{◌≡◌, ◌&&◌, true, Some};
+ghost use Rattle.fleet_kinds.specs.ArcTables.{existing, ranged, bounded, heeded, is_for, cost_on, row_range};
 
 use fleet::Range;
 use terms::is_near;
 
 // The unit may go from one state into another in the period, with outputs from lo to hi, for base + rate × output cents.
-#[derive(Clone, Copy)]
+#[derive(Clone, Copy, PartialEq, Eq, Debug)]
 pub struct ArcRow {
     pub unit: usize,
     pub period: usize,
@@ -19,7 +18,27 @@ pub struct ArcRow {
     pub rate: i32,
 }
 
+// Which arc: of which unit, in which period, from which state into which.
+#[derive(Clone, Copy, PartialEq, Eq)]
+pub(crate) struct ArcKey {
+    pub(crate) unit: usize,
+    pub(crate) period: usize,
+    pub(crate) from: usize,
+    pub(crate) to: usize,
+}
+
 impl ArcRow {
+    fn key(&self) -> ArcKey
+        ensures { result ≡ record { unit = self.now.unit; period = self.now.period; from = self.now.from; to = self.now.to } }
+    {
+        ArcKey {
+            unit: self.unit,
+            period: self.period,
+            from: self.from,
+            to: self.to,
+        }
+    }
+
     pub(crate) fn range(&self) -> Range
         ensures { result ≡ row_range self.now }
     {
@@ -38,7 +57,7 @@ impl ArcRow {
     fn has_range(&self) -> bool
         ensures { result ≡ ranged self.now }
     {
-        -500 <= self.lo && self.lo <= self.hi && self.hi <= 500
+        -500 <= self.lo && (self.lo..=500).contains(&self.hi)
     }
 
     fn has_bounds(&self) -> bool
@@ -53,44 +72,23 @@ impl ArcRow {
         self.does_exist(units) && self.has_range() && self.has_bounds()
     }
 
-    fn is_about(&self, unit: usize, period: usize, from: usize, to: usize) -> bool
-        ensures { result ≡ about unit period from to self.now }
+    // Whether the row counts for the arc, where there are so many units.
+    pub(crate) fn is_for(&self, units: usize, key: ArcKey) -> bool
+        ensures { result ≡ is_for units key.unit key.period key.from key.to self.now }
     {
-        self.unit == unit && self.period == period && self.from == from && self.to == to
+        self.is_heeded(units) && self.key() == key
     }
 
-    fn is_for(&self, units: usize, unit: usize, period: usize, from: usize, to: usize) -> bool
-        ensures { result ≡ is_for units unit period from to self.now }
+    // base + rate × output, 0 for an output that is not the arc's.
+    #[tactic(auto, using(crate::proofs::Costs::rate_fits, crate::proofs::Costs::product_fits))]
+    pub(crate) fn cost(&self, output: i32) -> i32
+        requires { (ranged self.now && bounded self.now) ≡ true }
+        ensures { result ≡ cost_on (Some self.now) output }
     {
-        self.is_heeded(units) && self.is_about(unit, period, from, to)
-    }
-}
-
-// base + rate × output.
-pub(crate) fn cost_of(base: i32, rate: i32, output: i32) -> i32
-    requires base { Near 250000000 base }
-    requires rate { Near 500000 rate }
-    requires output { Near 500 output }
-    ensures { result ≡ base +ℤ (rate *ℤ output) }
-{
-    base + rate * output
-}
-
-// The row that counts: the first heeded one for the unit, period and states.
-pub(crate) fn row_for(
-    units: usize,
-    rows: &[ArcRow],
-    unit: usize,
-    period: usize,
-    from: usize,
-    to: usize,
-) -> Option<ArcRow>
-    ensures { result ≡ row_for units rows.now unit period from to }
-{
-    for row in rows {
-        if row.is_for(units, unit, period, from, to) {
-            return Some(*row);
+        if self.range().contains(output) {
+            self.base + self.rate * output
+        } else {
+            0
         }
     }
-    None
 }
