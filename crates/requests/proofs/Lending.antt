@@ -1,12 +1,11 @@
 -- What a request lends of a shared table or buffer. Assumes nothing.
-use Rattle.std.proofs.Common.{◌≡◌, ℕ, ◌≤◌, List, ◌++◌, length, take, drop, ℤ, Option, Result, ap, ◌∙◌, subst, arith}
+use Rattle.std.proofs.Common.{MatchResult, IsOkAnd, Ok, Err, ◌≡◌, ℕ, List, ◌++◌, length, take, drop, ℤ, Option, Result, ap, ◌∙◌, subst, arith}
 use Rattle.std.proofs.lemmas.List.{length-take-le}
-use Rattle.std.proofs.lemmas.Bool.Decides.{nat_tests}
+use Rattle.std.proofs.Math.Nat.{min-le_right}
 use Rattle.terms.specs.declared.decline.Decline.{Decline}
 use Rattle.fleet.specs.declared.records.Entry.{Entry}
 use Rattle.fleet.specs.declared.scores.Gain.{Gain}
-use Rattle.fleet.specs.declared.scores.FewerLots.{FewerLots}
-use Rattle.fleet.specs.declared.scores.MoreLots.{MoreLots}
+use Rattle.fleet.specs.Scores.{FewerLots, MoreLots}
 use Rattle.fleet.specs.Units.{Meaning}
 use Rattle.settlement.specs.declared.docket.Docket.{Docket}
 use Rattle.settlement.specs.declared.verdicts.Judgement.{Judgement}
@@ -18,12 +17,15 @@ use Rattle.requests.specs.declared.request.Answer.{Answer}
 use Rattle.requests.specs.declared.request.Answer.TheVariants.{Entered, Shown, Judged}
 use Rattle.requests.specs.Requests.{lent, saying, supplied, RunBy, SupplyBy, ShowBy, JudgeBy}
 
-pub lent_most : (a n : ℕ) → lent a n ≤ n
-lent_most a n = grind (arith, nat_tests)
-
 -- as long as what was lent
 pub length_lent : {X : Type 0} (a j : ℕ) (xs : List X) → j ≡ lent a (length xs) → length (take j xs) ≡ lent a (length xs)
-length_lent a j xs e = let h = lent_most a (length xs) in length-take-le j xs (omega arith) ∙ e
+length_lent a j xs e = let h = min-le_right a (length xs) in length-take-le j xs (omega arith) ∙ e
+
+-- a call's answer that was turned into a request's
+pub said : {X : Type 0} (K : X → Answer) (P : X → Answer → Type 0) (q : Result X Decline) (r : Result Answer Decline) → ((x : X) (y : Answer) → P x y → y ≡ K x) → MatchResult q (λ x. IsOkAnd r (P x)) (λ e. r ≡ Err e) → r ≡ saying K q
+said K P (Ok x) (Ok y) is h = ap Ok (is x y h)
+said K P (Ok x) (Err e) is h = absurd h
+said K P (Err d) r is h = h
 
 module _ {F : Type 0} (mean : F → Meaning) (d d' : Docket F) where
   pub run_by : (u : ℕ) (es : List Entry) (slots j : ℕ) (old part : List (Option Gain)) (q : Result (Unit {0}) Decline) (r : Result Answer Decline) → j ≡ lent slots (length old) → r ≡ saying (λ _. Entered) q → GoesOn mean d d' (run u es (length (take j old))) (Enters (run u es (length (take j old))) q) → WorkTable (take j old) part q → GoesOn mean d d' (run u es (lent slots (length old))) (RunBy u es (lent slots (length old)) old (part ++ drop j old) r)

@@ -1,15 +1,16 @@
 -- Requests: which call each makes, and what it answers and leaves. Assumes nothing.
-use Rattle.std.specs.Prelude.{◌≡◌, ℕ, cond, List, ◌++◌, length, take, drop, ℤ, Ok, Err, Option, Result, nat_le}
+use Rattle.std.specs.Prelude.{◌≡◌, ℕ, min, List, ◌++◌, length, take, drop, ℤ, Ok, Err, Option, Result}
 use Rattle.terms.specs.declared.decline.Decline.{Decline}
 use Rattle.fleet.specs.declared.records.Entry.{Entry}
 use Rattle.fleet.specs.declared.scores.Gain.{Gain}
-use Rattle.fleet.specs.declared.scores.FewerLots.{FewerLots}
-use Rattle.fleet.specs.declared.scores.MoreLots.{MoreLots}
+use Rattle.fleet.specs.Scores.{FewerLots, MoreLots}
 use Rattle.fleet.specs.Units.{Meaning}
 use Rattle.settlement.specs.declared.verdicts.Judgement.{Judgement}
 use Rattle.settlement.specs.Ledger.{Ledger, Call, need, price, run, mix, supply, show, judge}
 use Rattle.settlement.specs.Calls.{Enters, Supplies, Shows, WorkTable}
 use Rattle.settlement.specs.Verdicts.{Judges}
+use Rattle.std.specs.Borrow.{MutBor}
+use Rattle.requests.specs.declared.desk.Desk.{Desk}
 use Rattle.requests.specs.declared.request.Request.{Request}
 use Rattle.requests.specs.declared.request.Request.TheVariants.{Need, Price, Run, Mix, Supply, Show, Judge}
 use Rattle.requests.specs.declared.request.Answer.{Answer}
@@ -26,9 +27,17 @@ pub record Shared : Type 0 where
 abbrev pub shared : List (Option Gain) → List (Option FewerLots) → List (Option MoreLots) → List Entry → List ℤ → Shared
 shared gains fewer more schedule pays = record { gains = gains; fewer = fewer; more = more; schedule = schedule; pays = pays }
 
+-- what a desk has as it is passed
+abbrev pub held : Desk → Shared
+held d = shared d.gains.now d.fewer.now d.more.now d.schedule.now d.pays.now
+
+-- and at the return, by what its loans end with
+abbrev pub left : {R : Type 0} → MutBor (List (Option Gain)) × (MutBor (List (Option FewerLots)) × (MutBor (List (Option MoreLots)) × (MutBor (List Entry) × (MutBor (List ℤ) × R)))) → Shared
+left d = shared d.0.now d.1.0.now d.1.1.0.now d.1.1.1.0.now d.1.1.1.1.0.now
+
 -- of n, where so much is asked
 abbrev pub lent : ℕ → ℕ → ℕ
-lent asked n = cond (nat_le asked n) asked n
+lent asked n = min asked n
 
 -- the call of a request, with what is lent of the shared tables and buffers
 abbrev pub called_by : Shared → Request → Call

@@ -1,7 +1,8 @@
 // What a list of requests works with.
 use fleet::{Entry, FewerLots, Gain, MoreLots};
 
-// Lent by the caller and shared by all requests: a work table for each score, a buffer for a schedule and one for pays.
+// Lent by the caller, since by the project's rules a docket allocates nothing, and shared by all requests: a work
+// table for each score, a buffer for a schedule and one for pays.
 #[derive(Drop)]
 pub struct Desk<'a> {
     pub gains: &'a mut [Option<Gain>],

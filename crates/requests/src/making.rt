@@ -1,52 +1,16 @@
-// One request on a docket.
+// One request on a docket. Each call that lends has a function of its own. One that lends for all was tried: it returns a
+// `&mut`, and the proof of its clause did not close; nor does one call borrow two fields of a desk.
 ghost use Rattle.std.specs.Prelude.{◌≡◌, length};
 ghost use Rattle.settlement.specs.Ledger.{run as ran, supply as supplies, show as shows, judge as judges};
 ghost use Rattle.settlement.specs.Follow.{GoesOn};
-ghost use Rattle.requests.specs.Requests.{shared, lent, saying, supplied, RunBy, SupplyBy, ShowBy, JudgeBy, called_by, RequestAnswered};
+ghost use Rattle.requests.specs.Requests.{held, left, lent, RunBy, SupplyBy, ShowBy, JudgeBy, called_by, RequestAnswered};
 ghost use Rattle.requests.specs.Settling.{SameLengths};
-ghost use Rattle.requests.specs.declared.request.Answer.TheVariants.{Entered, Shown, Judged};
 
 use crate::desk::Desk;
 use crate::request::{Answer, Request};
 use fleet::{Entry, FewerLots, Fleet, Gain, MoreLots};
-use settlement::{Docket, Judgement};
+use settlement::Docket;
 use terms::Decline;
-
-// So much of a table or buffer, or all that there is.
-fn lent(asked: usize, there: usize) -> usize
-    ensures { result ≡ lent asked there }
-{
-    if asked <= there { asked } else { there }
-}
-
-// The answers of the calls as those of requests.
-fn entered(res: Result<(), Decline>) -> Result<Answer, Decline>
-    ensures { result ≡ saying (λ _. Entered) res }
-{
-    res?;
-    Ok(Answer::Entered)
-}
-
-fn supplied(res: Result<(i64, i64, i64), Decline>) -> Result<Answer, Decline>
-    ensures { result ≡ saying supplied res }
-{
-    let (best, least, most) = res?;
-    Ok(Answer::Supplied(best, least, most))
-}
-
-fn shown(res: Result<(), Decline>) -> Result<Answer, Decline>
-    ensures { result ≡ saying (λ _. Shown) res }
-{
-    res?;
-    Ok(Answer::Shown)
-}
-
-fn judged(res: Result<Judgement, Decline>) -> Result<Answer, Decline>
-    ensures { result ≡ saying Judged res }
-{
-    let judgement = res?;
-    Ok(Answer::Judged(judgement))
-}
 
 // A run, with so many slots of the table.
 fn run<F: Fleet>(
@@ -59,8 +23,10 @@ fn run<F: Fleet>(
     ensures goes { GoesOn F.Fleet.meaning docket.old docket.new (ran unit schedule.now (lent slots (length table.old))) (RunBy unit schedule.now (lent slots (length table.old)) table.old table.new result) }
     ensures fleet { docket.new.fleet ≡ docket.old.fleet }
 {
-    let slots = lent(slots, table.len());
-    entered(docket.run(unit, schedule, &mut table[..slots]))
+    let slots = slots.min(table.len());
+    docket
+        .run(unit, schedule, &mut table[..slots])
+        .map(|()| Answer::Entered)
 }
 
 // Supply, with so many slots of each table.
@@ -74,9 +40,11 @@ fn supply<F: Fleet>(
 ) -> Result<Answer, Decline>
     ensures { GoesOn F.Fleet.meaning docket.now docket.now (supplies unit (lent fewer (length fewer_table.old)) (lent more (length more_table.old))) (SupplyBy unit (lent fewer (length fewer_table.old)) (lent more (length more_table.old)) fewer_table.old fewer_table.new more_table.old more_table.new result) }
 {
-    let fewer = lent(fewer, fewer_table.len());
-    let more = lent(more, more_table.len());
-    supplied(docket.supply(unit, &mut fewer_table[..fewer], &mut more_table[..more]))
+    let fewer = fewer.min(fewer_table.len());
+    let more = more.min(more_table.len());
+    docket
+        .supply(unit, &mut fewer_table[..fewer], &mut more_table[..more])
+        .map(|(best, least, most)| Answer::Supplied(best, least, most))
 }
 
 // Show, with so many slots of the table and so much of the buffer.
@@ -90,17 +58,19 @@ fn show<F: Fleet>(
 ) -> Result<Answer, Decline>
     ensures { GoesOn F.Fleet.meaning docket.now docket.now (shows unit (lent slots (length table.old)) (lent room (length buffer.old))) (ShowBy unit (lent slots (length table.old)) (lent room (length buffer.old)) table.old table.new buffer.old buffer.new result) }
 {
-    let slots = lent(slots, table.len());
-    let room = lent(room, buffer.len());
-    shown(docket.show(unit, &mut table[..slots], &mut buffer[..room]))
+    let slots = slots.min(table.len());
+    let room = room.min(buffer.len());
+    docket
+        .show(unit, &mut table[..slots], &mut buffer[..room])
+        .map(|()| Answer::Shown)
 }
 
 // Judge, with so much of the pay buffer.
 fn judge<F: Fleet>(docket: &Docket<F>, room: usize, pays: &mut [i64]) -> Result<Answer, Decline>
     ensures { GoesOn F.Fleet.meaning docket.now docket.now (judges (lent room (length pays.old))) (JudgeBy (lent room (length pays.old)) pays.old pays.new result) }
 {
-    let room = lent(room, pays.len());
-    judged(docket.judge(&mut pays[..room]))
+    let room = room.min(pays.len());
+    docket.judge(&mut pays[..room]).map(Answer::Judged)
 }
 
 // Makes the request's call, with what it lends of the desk.
@@ -109,9 +79,9 @@ pub(crate) fn make<F: Fleet>(
     request: Request,
     desk: Desk,
 ) -> Result<Answer, Decline>
-    ensures goes { GoesOn F.Fleet.meaning docket.old docket.new (called_by (shared desk.entry.gains.now desk.entry.fewer.now desk.entry.more.now desk.entry.schedule.now desk.entry.pays.now) request.entry) (RequestAnswered request.entry (shared desk.entry.gains.now desk.entry.fewer.now desk.entry.more.now desk.entry.schedule.now desk.entry.pays.now) (shared desk.exit.0.now desk.exit.1.0.now desk.exit.1.1.0.now desk.exit.1.1.1.0.now desk.exit.1.1.1.1.0.now) result) }
+    ensures goes { GoesOn F.Fleet.meaning docket.old docket.new (called_by (held desk.entry) request.entry) (RequestAnswered request.entry (held desk.entry) (left desk.exit) result) }
     ensures fleet { docket.new.fleet ≡ docket.old.fleet }
-    ensures long { SameLengths (shared desk.entry.gains.now desk.entry.fewer.now desk.entry.more.now desk.entry.schedule.now desk.entry.pays.now) (shared desk.exit.0.now desk.exit.1.0.now desk.exit.1.1.0.now desk.exit.1.1.1.0.now desk.exit.1.1.1.1.0.now) }
+    ensures long { SameLengths (held desk.entry) (left desk.exit) }
 {
     let Desk {
         gains,
@@ -120,9 +90,12 @@ pub(crate) fn make<F: Fleet>(
         schedule: buffer,
         pays,
     } = desk;
+    // A list of requests is data that a caller writes, so each is a case and no closure.
     match request {
-        Request::Need(wanted) => entered(docket.need(wanted)),
-        Request::Price(over, numerators) => entered(docket.price(over, numerators)),
+        Request::Need(wanted) => docket.need(wanted).map(|()| Answer::Entered),
+        Request::Price(over, numerators) => docket
+            .price(over, numerators)
+            .map(|()| Answer::Entered),
         Request::Run {
             unit,
             schedule,
@@ -132,7 +105,7 @@ pub(crate) fn make<F: Fleet>(
             unit,
             weight,
             schedule,
-        } => entered(docket.mix(unit, weight, schedule)),
+        } => docket.mix(unit, weight, schedule).map(|()| Answer::Entered),
         Request::Supply { unit, fewer, more } => {
             supply(docket, unit, fewer, more, fewer_table, more_table)
         }

@@ -4,7 +4,7 @@ use settlement::Judgement;
 
 // One of the seven calls with its arguments. The work tables and buffers are shared by the whole list; a request says
 // how much of them it lends.
-#[derive(Clone, Copy)]
+#[derive(Clone, Copy, PartialEq, Eq, Debug)]
 pub enum Request<'a> {
     Need(&'a [i32]),
     Price(u32, &'a [i32]),
@@ -34,11 +34,11 @@ pub enum Request<'a> {
 }
 
 // What a request is answered.
-#[derive(Clone, Copy)]
+#[derive(Clone, Copy, PartialEq, Eq, Debug)]
 pub enum Answer {
     // a need, price, run or mix
     Entered,
-    // best gain, least lots, greatest lots
+    // best gain, fewest lots, most lots
     Supplied(i64, i64, i64),
     // the schedule stands in the shared buffer
     Shown,

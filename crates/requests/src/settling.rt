@@ -1,7 +1,7 @@
 // A whole list, from opening to verdict.
 ghost use Rattle.std.specs.Prelude.{◌≡◌};
 ghost use Rattle.settlement.specs.Calls.{open_fault};
-ghost use Rattle.requests.specs.Requests.{shared};
+ghost use Rattle.requests.specs.Requests.{held, left};
 ghost use Rattle.requests.specs.Settling.{SettleAnswer};
 
 use crate::desk::Desk;
@@ -26,7 +26,7 @@ pub fn settle<F: Fleet>(
     desk: Desk,
     answers: &mut [Option<Result<Answer, Decline>>],
 ) -> Settled<F>
-    ensures answer { SettleAnswer (open_fault (F.Fleet.meaning fleet) periods weight) (F.Fleet.meaning fleet) periods weight requests.now (shared desk.entry.gains.now desk.entry.fewer.now desk.entry.more.now desk.entry.schedule.now desk.entry.pays.now) (shared desk.exit.0.now desk.exit.1.0.now desk.exit.1.1.0.now desk.exit.1.1.1.0.now desk.exit.1.1.1.1.0.now) answers.old answers.new result.judged }
+    ensures answer { SettleAnswer (open_fault (F.Fleet.meaning fleet) periods weight) (F.Fleet.meaning fleet) periods weight requests.now (held desk.entry) (left desk.exit) answers.old answers.new result.judged }
     ensures fleet { result.fleet ≡ fleet }
 {
     let Desk {
@@ -36,32 +36,30 @@ pub fn settle<F: Fleet>(
         schedule,
         pays,
     } = desk;
-    match Docket::open(fleet, periods, weight) {
-        Err(Unopened { fleet, decline }) => Settled {
+    let mut docket = match Docket::open(fleet, periods, weight) {
+        Ok(docket) => docket,
+        Err(Unopened { fleet, decline }) => return Settled {
             fleet,
             judged: Err(decline),
         },
-        Ok(opened) => {
-            let mut docket = opened;
-            for at in 0..requests.len() {
-                let lent = Desk {
-                    gains: &mut gains[..],
-                    fewer: &mut fewer[..],
-                    more: &mut more[..],
-                    schedule: &mut schedule[..],
-                    pays: &mut pays[..],
-                };
-                let request = requests[at];
-                let answer = make(&mut docket, request, lent);
-                if at < answers.len() {
-                    answers[at] = Some(answer);
-                }
-            }
-            let judged = docket.judge(pays);
-            Settled {
-                fleet: docket.close(),
-                judged,
-            }
+    };
+    for (at, request) in requests.iter().enumerate() {
+        let lent = Desk {
+            gains: &mut gains[..],
+            fewer: &mut fewer[..],
+            more: &mut more[..],
+            schedule: &mut schedule[..],
+            pays: &mut pays[..],
+        };
+        let answer = make(&mut docket, *request, lent);
+        // By its place: no clause says what a slice holds after a write through `get_mut`.
+        if at < answers.len() {
+            answers[at] = Some(answer);
         }
+    }
+    let judged = docket.judge(pays);
+    Settled {
+        fleet: docket.close(),
+        judged,
     }
 }

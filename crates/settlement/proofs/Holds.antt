@@ -6,12 +6,12 @@ use Rattle.terms.specs.declared.decline.Decline.{Decline}
 use Rattle.terms.specs.declared.decline.Layer.TheVariants.{Docket}
 use Rattle.fleet.specs.declared.records.Entry.{Entry}
 use Rattle.fleet.specs.declared.rows.PriceRow.{PriceRow}
-use Rattle.fleet.specs.declared.schedules.Account.{Account}
 use Rattle.fleet.specs.Units.{Meaning, UnitModel}
 use Rattle.fleet.specs.Schedules.{Prices, Schedule, gain_of}
-use Rattle.fleet.specs.Rows.{Fault, prices_of, PriceRowOf}
+use Rattle.fleet.specs.Rows.{Fault, prices_of, PriceRowOf, periods_of}
 use Rattle.settlement.specs.declared.stages.Stage.{Stage}
 use Rattle.settlement.specs.declared.stages.Stage.TheVariants.{Blank, Needed, Priced}
+use Rattle.settlement.specs.declared.counted.Counted.{Counted}
 use Rattle.settlement.specs.declared.standing.Standing.{Standing}
 use Rattle.settlement.specs.Ledger.{Ledger, is_priced, has, check, allow, bad_at}
 use Rattle.settlement.specs.Follow.{StageFollows, UnitFollows}
@@ -56,7 +56,7 @@ unit_declined m T l s u d after f (inr h) =
 pub record UnitPassed (m : Meaning) (T : ℕ) (l : Ledger) (u : ℕ) (row : PriceRow) : Type 0 where
   pub priced : is_priced l.stage ≡ true
   pub unit : u < m.units
-  pub long : row.periods ≡ T
+  pub long : (periods_of row) ≡ T
   pub prices : prices_of row ≡ l.prices
   pub next : (after : Option Fault) → check (is_priced l.stage) 21 u (check (ltb u m.units) 24 u after) ≡ after
 
@@ -89,12 +89,12 @@ account_declined p T row u es d after (inr h) =
       says = h.2;
     }
 
-pub record AccountPassed (p : UnitModel) (T : ℕ) (r : Prices) (u : ℕ) (es : List Entry) (k : Account) : Type 0 where
+pub record AccountPassed (p : UnitModel) (T : ℕ) (r : Prices) (u : ℕ) (es : List Entry) (k : Counted) : Type 0 where
   pub scheduled : Schedule p T es
   pub gain : k.gain ≡ gain_of p r es
   pub next : (after : Option Fault) → check (eqb (length es) T) 26 u (allow (bad_at p es) after) ≡ after
 
-pub account_passed : (p : UnitModel) (T : ℕ) (row : PriceRow) (r : Prices) (u : ℕ) (es : List Entry) (k : Account) → prices_of row ≡ r → Accounted p T row u es (Ok k) → AccountPassed p T r u es k
+pub account_passed : (p : UnitModel) (T : ℕ) (row : PriceRow) (r : Prices) (u : ℕ) (es : List Entry) (k : Counted) → prices_of row ≡ r → Accounted p T row u es (Ok k) → AccountPassed p T r u es k
 account_passed p T row r u es k e h =
     record {
       scheduled = record { long = h.0; allowed = h.1 };

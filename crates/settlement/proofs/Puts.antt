@@ -77,8 +77,8 @@ module _ (m : Meaning) (T W : ℕ) (l : Ledger) where
     abbrev after_run : Ledger
     after_run = entered m T W l (run u es slots)
 
-    run_here : UnitFollows m T after_run u (Some (record { gain = g; best = b; mixed = 0 }))
-    run_here = record { run = es; ran = entered_here u (Some es) (l.runs u); gain_is = gain_is; best_is = best_is; mixed_is = sym (k.without u first) }
+    run_here : UnitFollows m T after_run u (Some noted.standing)
+    run_here = record { run = es; ran = entered_here u (Some es) (l.runs u); gain_is = noted.gain_is ∙ gain_is; best_is = best_is ∙ ap Some (sym noted.best_is); mixed_is = noted.mixed_is ∙ sym (k.without u first) }
 
     run_there : (v : ℕ) (o : Option Standing) → (u ≡ v → ⊥) → UnitFollows m T l v o → UnitFollows m T after_run v o
     run_there v None d h = entered_there u v (Some es) (l.runs v) d ∙ h
@@ -127,11 +127,11 @@ module _ (m : Meaning) (T W : ℕ) (l : Ledger) where
     stands_old : Stands m T l u old
     stands_old = subst (UnitFollows m T l u) stood (f.units_are u)
 
-    mix_here : UnitFollows m T after_mix u (Some (record { gain = old.gain; best = old.best; mixed = old.mixed + w }))
+    mix_here : UnitFollows m T after_mix u (Some noted.standing)
     mix_here =
         let h = stands_old in
         let grown : old.mixed + w ≡ weighs u after_mix.mixes = let a = weighs_more u in let c = entered_here u w 0 in let e = h.mixed_is in omega arith in
-        record { run = h.run; ran = h.ran; gain_is = h.gain_is; best_is = h.best_is; mixed_is = grown }
+        record { run = h.run; ran = h.ran; gain_is = noted.gain_is ∙ h.gain_is; best_is = h.best_is ∙ ap Some (sym noted.best_is); mixed_is = noted.mixed_is ∙ grown }
 
     mix_there : (v : ℕ) (o : Option Standing) → (u ≡ v → ⊥) → UnitFollows m T l v o → UnitFollows m T after_mix v o
     mix_there v None d h = h

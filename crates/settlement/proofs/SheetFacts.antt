@@ -9,9 +9,7 @@ use Rattle.fleet.specs.Rows.{Fault, Made}
 use Rattle.settlement.specs.declared.stages.Stage.{Stage}
 use Rattle.settlement.specs.declared.stages.Stage.TheVariants.{Blank, Needed, Priced}
 use Rattle.settlement.specs.declared.stages.Rows.{Rows}
-use Rattle.settlement.specs.declared.standing.Standing.{Standing}
 use Rattle.settlement.specs.Sheets.{RowsAt}
-use Rattle.settlement.specs.Standings.{bounded}
 use Rattle.fleet.specs.declared.records.Entry.{Entry}
 use Rattle.settlement.specs.Evidence.{lots_at}
 
@@ -23,9 +21,6 @@ pub always : {A : Type 0} (n k : ℕ) (d : A) → get_or (replicate n d) k d ≡
 always zero k d = refl
 always (suc n) zero d = refl
 always (suc n) (suc k) d = always n k d
-
-pub none_bounded : (n k : ℕ) (xs : List (Option Standing)) → xs ≡ replicate n None → bounded (get_or xs k None) ≡ true
-none_bounded n k xs e = ap (λ ys. bounded (get_or ys k None)) e ∙ ap bounded (always n k None)
 
 pub zero_near : (b n k : ℕ) (xs : List ℤ) → xs ≡ replicate n (pos 0) → near b (get_or xs k (pos 0)) ≡ true
 zero_near b n k xs e = ap (λ ys. near b (get_or ys k (pos 0))) e ∙ ap (near b) (always n k (pos 0)) ∙ near_true b (pos 0) (near_zero b)

@@ -1,48 +1,25 @@
 -- What is kept of the units when one of them changes. Assumes nothing.
-use Rattle.std.proofs.Common.{◌≡◌, ℕ, ◌+◌, ◌*◌, ◌<◌, ◌≤◌, true, leb, List, length, get_or, set, ℤ, pos, ◌+ℤ◌, ◌*ℤ◌, Some, None, Option, sym, ap, ◌∙◌, subst, inl, inr, mul_comm, mul-add, arith}
+use Rattle.std.proofs.Common.{◌≡◌, ℕ, ◌+◌, ◌*◌, ◌<◌, ◌≤◌, true, List, length, get_or, set, ℤ, pos, ◌+ℤ◌, ◌*ℤ◌, Some, None, Option, sym, ap, subst, mul_comm, mul-add, arith}
 use Rattle.std.proofs.lemmas.List.Sums.{sum_by-set}
 use Rattle.std.proofs.ByRecursion.{sum_by_le, All-from_get_or}
-use Rattle.std.proofs.lemmas.List.{get_or-set_same, get_or-set_other}
-use Rattle.std.proofs.lemmas.Bool.{cases_eq, and_parts, and_from}
-use Rattle.std.proofs.lemmas.Bool.Decides.{nat_tests}
 use Rattle.terms.specs.Numbers.{Near, near}
 use Rattle.terms.proofs.Bounds.{near_test, near_true, near_add, near_more, near_mul, near_pos}
 use Rattle.settlement.specs.declared.standing.Standing.{Standing}
-use Rattle.settlement.specs.Standings.{bounded, counts, runs_in, mixed_of, weight_in}
-
-pub bounded_parts : (s : Standing) → bounded (Some s) ≡ true → Near 48000000000000 s.gain × Near 48000000000000 s.best × (s.mixed ≤ 1000)
-bounded_parts s h =
-    let a = and_parts _ _ h in
-    let b = and_parts _ _ a.1 in
-    let l = b.1 in
-    (near_test 48000000000000 s.gain a.0, near_test 48000000000000 s.best b.0, grind (arith, nat_tests))
-
-light_test : (n : ℕ) → n ≤ 1000 → leb n 1000 ≡ true
-light_test n h = grind (arith, nat_tests)
-
-pub bounded_from : (s : Standing) → Near 48000000000000 s.gain → Near 48000000000000 s.best → s.mixed ≤ 1000 → bounded (Some s) ≡ true
-bounded_from s g b l = and_from _ _ (near_true 48000000000000 s.gain g) (and_from _ _ (near_true 48000000000000 s.best b) (light_test s.mixed l))
-
-pub bounded_set : (xs : List (Option Standing)) (u : ℕ) (s : Standing) → u < length xs → ((k : ℕ) → bounded (get_or xs k None) ≡ true) → bounded (Some s) ≡ true → (k : ℕ) → bounded (get_or (set xs u (Some s)) k None) ≡ true
-bounded_set xs u s lt h b k =
-    elim (cases_eq k u) [
-      | inl e ↦ rw e (ap bounded (get_or-set_same xs u (Some s) None lt) ∙ b)
-      | inr d ↦ ap bounded (get_or-set_other xs u k (Some s) None d) ∙ h k
-    ]
+use Rattle.settlement.specs.Standings.{counts, runs_in, mixed_of, weight_in}
 
 counts_one : (o : Option Standing) → counts o ≤ 1
 counts_one None = omega arith
 counts_one (Some s) = omega arith
 
-mixed_most : (o : Option Standing) → bounded o ≡ true → mixed_of o ≤ 1000
-mixed_most None h = omega arith
-mixed_most (Some s) h = (bounded_parts s h).2
+mixed_most : (o : Option Standing) → mixed_of o ≤ 1000
+mixed_most None = omega arith
+mixed_most (Some s) = s.light
 
 pub runs_most : (xs : List (Option Standing)) → length xs ≡ 64 → runs_in xs ≤ 64
 runs_most xs long = let h = sum_by_le counts 1 xs (All-from_get_or (λ x. counts x ≤ 1) xs None (λ i lt. counts_one (get_or xs i None))) in omega arith
 
-pub weight_most : (xs : List (Option Standing)) → length xs ≡ 64 → ((k : ℕ) → bounded (get_or xs k None) ≡ true) → weight_in xs ≤ 64000
-weight_most xs long h = let k = sum_by_le mixed_of 1000 xs (All-from_get_or (λ x. mixed_of x ≤ 1000) xs None (λ i lt. mixed_most (get_or xs i None) (h i))) in omega arith
+pub weight_most : (xs : List (Option Standing)) → length xs ≡ 64 → weight_in xs ≤ 64000
+weight_most xs long = let k = sum_by_le mixed_of 1000 xs (All-from_get_or (λ x. mixed_of x ≤ 1000) xs None (λ i lt. mixed_most (get_or xs i None))) in omega arith
 
 -- one more run, one more mix
 pub runs_more : (xs : List (Option Standing)) (u : ℕ) (s : Standing) → u < length xs → get_or xs u None ≡ None → runs_in (set xs u (Some s)) ≡ runs_in xs + 1

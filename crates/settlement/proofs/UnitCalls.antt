@@ -9,10 +9,9 @@ use Rattle.terms.specs.declared.decline.Layer.TheVariants.{Docket as DocketLayer
 use Rattle.terms.proofs.Bounds.{near_zero}
 use Rattle.fleet.specs.declared.records.Entry.{Entry}
 use Rattle.fleet.specs.declared.rows.PriceRow.{PriceRow}
-use Rattle.fleet.specs.declared.schedules.Account.{Account}
 use Rattle.fleet.specs.Units.{Meaning, UnitModel, SoundUnit, Sound}
 use Rattle.fleet.specs.Schedules.{Prices, Schedule, Allowed, AllowedFrom, gain_of}
-use Rattle.fleet.specs.Rows.{Fault, prices_of}
+use Rattle.fleet.specs.Rows.{Fault, prices_of, periods_of}
 use Rattle.fleet.specs.Gains.{BestGain, IsBest, best_gain}
 use Rattle.fleet.specs.Answers.{Room, Searched, Free}
 use Rattle.fleet.specs.Uplifts.{best}
@@ -21,6 +20,7 @@ use Rattle.fleet.proofs.RowFacts.{Priced}
 use Rattle.fleet.proofs.GainBounds.{gain_near}
 use Rattle.fleet.proofs.BestGains.{best_gain_law}
 use Rattle.fleet.proofs.Totals.{best_unique}
+use Rattle.settlement.specs.declared.counted.Counted.{Counted}
 use Rattle.settlement.specs.declared.standing.Standing.{Standing}
 use Rattle.settlement.specs.declared.docket.Docket.{Docket}
 use Rattle.settlement.specs.Ledger.{Ledger, run, mix, is_priced, has, weighs, held_back, check}
@@ -34,10 +34,10 @@ use Rattle.settlement.proofs.Never.{held_64, sound_priced, best_within}
 use Rattle.settlement.proofs.Puts.{run_put, mix_put}
 use Rattle.settlement.proofs.Carries.{refused, accepted}
 
--- a decline that `?` passes on
-pub passed_on : {T : Type 0} (r : Result T Decline) (e : Decline) → IsErrAnd r (λ y. y ≡ e) → r ≡ Err e
-passed_on (Ok x) e h = absurd h
-passed_on (Err y) e h = ap Err h
+-- what holds at a decline holds of what `?` passes on
+pub at_passed : {T : Type 0} (P : Result T Decline → Type 0) (r : Result T Decline) (e : Decline) → IsErrAnd r (λ y. y ≡ e) → P (Err e) → P r
+at_passed P (Ok x) e h p = absurd h
+at_passed P (Err y) e h p = subst (λ d. P (Err d)) (sym h) p
 
 -- the outputs of an allowed schedule
 lots_from : (p : UnitModel) → SoundUnit p → (t a : ℕ) (es : List Entry) → AllowedFrom p t a es → (k : ℕ) → Near 500 (lots_at es k)
@@ -107,7 +107,7 @@ module _ {F : Type 0} (mean : F → Meaning) (d : Docket F) (sound : Sound (mean
         pub run_26_27 : (e : Decline) → Accounted p₀ T₀ row u es (Err e) → GoesOn mean d d (run u es slots) (Enters (run u es slots) (Err e))
         run_26_27 e h = refused mean d (run u es slots) e (λ l f. held_by _ _ e (first_run l f _) (account_declined p₀ T₀ row u es e _ h))
 
-        module _ (k : Account) (fine : Accounted p₀ T₀ row u es (Ok k)) where
+        module _ (k : Counted) (fine : Accounted p₀ T₀ row u es (Ok k)) where
           counted : (l : Ledger) → SheetFollows m₀ T₀ l d.sheet → AccountPassed p₀ T₀ l.prices u es k
           counted l f = account_passed p₀ T₀ row l.prices u es k (passed l row f known).prices fine
 
@@ -115,11 +115,11 @@ module _ {F : Type 0} (mean : F → Meaning) (d : Docket F) (sound : Sound (mean
           allowed_run l f = first_run l f _ ∙ (counted l f).next (check (leb 3920 slots) 30 u None)
 
           -- 30; the schedule that was just allowed is one, so 32 does not come
-          pub run_30 : (e : Decline) → Searched {X = ℤ} (Room slots) p₀ row.periods u (BestGain p₀ row.periods (prices_of row)) (Err e) → GoesOn mean d d (run u es slots) (Enters (run u es slots) (Err e))
+          pub run_30 : (e : Decline) → Searched {X = ℤ} (Room slots) p₀ (periods_of row) u (BestGain p₀ (periods_of row) (prices_of row)) (Err e) → GoesOn mean d d (run u es slots) (Enters (run u es slots) (Err e))
           run_30 e (inl h) = refused mean d (run u es slots) e (λ l f. held_by _ _ e (allowed_run l f) (check_no (leb 3920 slots) 30 u None e (no_room slots h.0) h.1))
           run_30 e (inr h) = refused mean d (run u es slots) e (λ l f. absurd (h.1 es (subst (λ n. Schedule p₀ n es) (sym (passed l row f known).long) (counted l f).scheduled)))
 
-          pub run_taken : (d' : Docket F) (b : ℤ) → d'.fleet ≡ d.fleet → d'.periods.count ≡ T₀ → d'.weight ≡ W₀ → Room slots → BestGain p₀ row.periods (prices_of row) b → RunNoted u k.gain b es d.sheet d'.sheet → u < length d.sheet.units → GoesOn mean d d' (run u es slots) (Enters (run u es slots) (Ok tt))
+          pub run_taken : (d' : Docket F) (b : ℤ) → d'.fleet ≡ d.fleet → d'.periods.count ≡ T₀ → d'.weight ≡ W₀ → Room slots → BestGain p₀ (periods_of row) (prices_of row) b → RunNoted u k.gain b es d.sheet d'.sheet → u < length d.sheet.units → GoesOn mean d d' (run u es slots) (Enters (run u es slots) (Ok tt))
           run_taken d' b same_fleet same_periods same_weight room found noted within =
               accepted mean d d' (run u es slots) same_fleet same_periods same_weight
               (λ l kept f.
@@ -127,7 +127,7 @@ module _ {F : Type 0} (mean : F → Meaning) (d : Docket F) (sound : Sound (mean
               let sp = sound.each u in
               let run_is = counted l f in
               let priced = sound_priced T₀ l.prices (kept.sound_prices ok.priced) in
-              let is : best_gain p₀ T₀ l.prices ≡ Some b = ap (λ n. best_gain p₀ n l.prices) (sym ok.long) ∙ ap (best_gain p₀ row.periods) (sym ok.prices) ∙ best_found p₀ sp row.periods (prices_of row) b found in (
+              let is : best_gain p₀ T₀ l.prices ≡ Some b = ap (λ n. best_gain p₀ n l.prices) (sym ok.long) ∙ ap (best_gain p₀ (periods_of row)) (sym ok.prices) ∙ best_found p₀ sp (periods_of row) (prices_of row) b found in (
                 allowed_run l f ∙ check_yes (leb 3920 slots) 30 u None (enough_room slots room),
                 run_right l priced run_is.scheduled.allowed,
                 run_put m₀ T₀ W₀ l u slots es k.gain b d.sheet d'.sheet kept f noted known.1 within (idle l f) run_is.gain is,
@@ -147,7 +147,7 @@ module _ {F : Type 0} (mean : F → Meaning) (d : Docket F) (sound : Sound (mean
       pub mix_26_27 : (e : Decline) → Accounted p₀ T₀ row u es (Err e) → GoesOn mean d d (mix u w es) (Enters (mix u w es) (Err e))
       mix_26_27 e h = refused mean d (mix u w es) e (λ l f. held_by _ _ e ((passed l row f known).next _) (account_declined p₀ T₀ row u es e _ h))
 
-      module _ (k : Account) (fine : Accounted p₀ T₀ row u es (Ok k)) where
+      module _ (k : Counted) (fine : Accounted p₀ T₀ row u es (Ok k)) where
         mix_counted : (l : Ledger) → SheetFollows m₀ T₀ l d.sheet → AccountPassed p₀ T₀ l.prices u es k
         mix_counted l f = account_passed p₀ T₀ row l.prices u es k (passed l row f known).prices fine
 
@@ -187,10 +187,6 @@ stood_is o (Some s) e h = refl
 pub not_stood : (o q : Option Standing) → o ≡ q → false ≡ is_some o → q ≡ None
 not_stood o None e h = refl
 not_stood o (Some s) e h = absurd (both_ways true (sym (h ∙ ap is_some e)) refl)
-
--- a table that was not used
-pub table_kept : {X Y : Type 0} (xs : List X) (r : Result Y Decline) → WorkTable xs xs r
-table_kept xs r = record { long = refl; untouched = λ _. refl }
 
 -- a table after a search that was declined
 pub table_searched : {X Y Z : Type 0} (room : Type 0) (p : UnitModel) (T u : ℕ) (Is : Z → Type 0) (old new : List X) (e : Decline) → Searched room p T u Is (Err e) → Free room old new → WorkTable {Y = Y} old new (Err e)

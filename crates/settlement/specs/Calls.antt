@@ -5,7 +5,6 @@ use Rattle.terms.specs.declared.decline.Decline.{Decline}
 use Rattle.terms.specs.declared.decline.Layer.TheVariants.{Docket as DocketLayer, Fleet as FleetLayer}
 use Rattle.fleet.specs.declared.records.Entry.{Entry}
 use Rattle.fleet.specs.declared.rows.PriceRow.{PriceRow}
-use Rattle.fleet.specs.declared.schedules.Account.{Account}
 use Rattle.fleet.specs.Units.{Meaning, UnitModel}
 use Rattle.fleet.specs.Schedules.{Allowed, FirstBad, gain_of}
 use Rattle.fleet.specs.Rows.{Fault, prices_of}
@@ -14,6 +13,7 @@ use Rattle.fleet.specs.Answers.{BufferKept}
 use Rattle.settlement.specs.declared.stages.Stage.{Stage}
 use Rattle.settlement.specs.declared.stages.Stage.TheVariants.{Blank, Needed, Priced}
 use Rattle.settlement.specs.declared.stages.Rows.{Rows}
+use Rattle.settlement.specs.declared.counted.Counted.{Counted}
 use Rattle.settlement.specs.declared.docket.Docket.{Docket}
 use Rattle.settlement.specs.declared.docket.Unopened.{Unopened}
 use Rattle.settlement.specs.Ledger.{Ledger, Call, supply, show, check}
@@ -71,9 +71,9 @@ abbrev pub UnitPrices : Meaning → Stage → ℕ → Result PriceRow Decline �
 UnitPrices m s u (Ok row) = ((rows : Rows) × (s ≡ Priced rows) × (row ≡ rows.prices)) × (u < m.units)
 UnitPrices m s u (Err d) = ((at_priced s ≡ false) × Says DocketLayer 21 u d) ⊎ ((at_priced s ≡ true) × (m.units ≤ u) × Says DocketLayer 24 u d)
 
--- a schedule's gain: 26, then 27
-abbrev pub Accounted : UnitModel → ℕ → PriceRow → ℕ → List Entry → Result Account Decline → Type 0
-Accounted p T row u es (Ok k) = (length es ≡ T) × Allowed p es × (k.gain ≡ gain_of p (prices_of row) es)
+-- an allowed schedule with its gain: 26, then 27
+abbrev pub Accounted : UnitModel → ℕ → PriceRow → ℕ → List Entry → Result Counted Decline → Type 0
+Accounted p T row u es (Ok k) = (length es ≡ T) × Allowed p es × (k.gain ≡ gain_of p (prices_of row) es) × (k.schedule.now ≡ es)
 Accounted p T row u es (Err d) = ((length es ≢ T) × Says DocketLayer 26 u d) ⊎ ((length es ≡ T) × FirstBad p es d.place × Says DocketLayer 27 d.place d)
 
 -- a verdict on the docket's sheet, or the first of 41 to 44

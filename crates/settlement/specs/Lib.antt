@@ -8,3 +8,4 @@ pub mod Sheets
 pub mod Weighing
 pub mod Follow
 pub mod Calls
+pub mod Words

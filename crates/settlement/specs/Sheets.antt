@@ -43,11 +43,6 @@ abbrev pub PriceMade : ℕ → NeedRow → ℕ → List ℤ → Stage → Result
 PriceMade T needs d ns new (Ok x) = (row : PriceRow) × (new ≡ Priced (record { needs = needs; prices = row })) × PriceRowOf T d ns row × (price_fault T d ns ≡ None)
 PriceMade T needs d ns new (Err e) = (new ≡ Needed needs) × Made {X = PriceRow} (price_fault T d ns) (PriceRowOf T d ns) (Err e)
 
-abbrev pub with_prices : Stage → PriceRow → Stage
-with_prices Blank row = Blank
-with_prices (Needed needs) row = Priced (record { needs = needs; prices = row })
-with_prices (Priced rows) row = Priced rows
-
 -- need at blank and price at needed enter their row and move the stage; else 21
 abbrev pub RowEntered : ℕ → Stage → RowCall → Stage → Result (Unit {0}) Decline → Type 0
 RowEntered T Blank (Need xs) new r = NeedMade T xs.now new r
@@ -69,7 +64,11 @@ RowsAt (Needed needs) place (Err d) = Says Docket 21 place d
 -- a run is noted: its unit stands, with no mixes yet, and its lots are added
 pub record RunNoted (u : ℕ) (gain best : ℤ) (es : List Entry) (old new : Sheet) : Type 0 where
   pub stage_is : new.stage ≡ old.stage
-  pub units_are : new.units ≡ slice_set old.units u (Some (record { gain = gain; best = best; mixed = 0 }))
+  pub standing : Standing
+  pub units_are : new.units ≡ slice_set old.units u (Some standing)
+  pub gain_is : standing.gain ≡ gain
+  pub best_is : standing.best ≡ best
+  pub mixed_is : standing.mixed ≡ 0
   pub runs_are : (t : ℕ) → slice_index_or new.runs t (pos 0) ≡ slice_index_or old.runs t (pos 0) +ℤ lots_at es t
   pub mixes_are : new.mixes ≡ old.mixes
   pub gap_is : new.gap ≡ old.gap
@@ -77,7 +76,11 @@ pub record RunNoted (u : ℕ) (gain best : ℤ) (es : List Entry) (old new : She
 -- a mix is noted: its weight, its lots by weight, and what it lacks of the best gain by weight are added
 pub record MixNoted (u : ℕ) (s : Standing) (w : ℕ) (gain : ℤ) (es : List Entry) (old new : Sheet) : Type 0 where
   pub stage_is : new.stage ≡ old.stage
-  pub units_are : new.units ≡ slice_set old.units u (Some (record { gain = s.gain; best = s.best; mixed = s.mixed + w }))
+  pub standing : Standing
+  pub units_are : new.units ≡ slice_set old.units u (Some standing)
+  pub gain_is : standing.gain ≡ s.gain
+  pub best_is : standing.best ≡ s.best
+  pub mixed_is : standing.mixed ≡ s.mixed + w
   pub runs_are : new.runs ≡ old.runs
   pub mixes_are : (t : ℕ) → slice_index_or new.mixes t (pos 0) ≡ slice_index_or old.mixes t (pos 0) +ℤ (pos w *ℤ lots_at es t)
   pub gap_is : new.gap ≡ old.gap +ℤ (pos w *ℤ (s.best -ℤ gain))

@@ -1,12 +1,6 @@
--- What is kept of the units: bounds and totals. Assumes nothing.
-use Rattle.std.specs.Prelude.{ℕ, Bool, true, ◌&&◌, List, Some, None, sum_by, Option, nat_le}
-use Rattle.terms.specs.Numbers.{near}
+-- What is kept of the units: totals. Assumes nothing.
+use Rattle.std.specs.Prelude.{ℕ, List, Some, None, sum_by, Option}
 use Rattle.settlement.specs.declared.standing.Standing.{Standing}
-
--- gains within those of a day, and a weight that a docket can have
-abbrev pub bounded : Option Standing → Bool
-bounded None = true
-bounded (Some s) = near 48000000000000 s.gain && (near 48000000000000 s.best && nat_le s.mixed 1000)
 
 abbrev pub counts : Option Standing → ℕ
 counts None = 0

@@ -1,7 +1,7 @@
 // The docket of a day: its calls, its evidence and its verdict.
 #![tactic(auto)]
 
-mod declines;
+mod counted;
 mod docket;
 mod sheet;
 mod stages;

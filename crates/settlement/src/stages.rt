@@ -2,14 +2,14 @@
 use fleet::{NeedRow, PriceRow};
 
 // The rows that a day is settled by.
-#[derive(Clone, Copy)]
+#[derive(Clone, Copy, PartialEq, Eq, Debug)]
 pub struct Rows {
     pub needs: NeedRow,
     pub prices: PriceRow,
 }
 
 // Each stage holds what its calls work with.
-#[derive(Clone, Copy)]
+#[derive(Clone, Copy, PartialEq, Eq, Debug)]
 pub enum Stage {
     Blank,
     Needed(NeedRow),
@@ -17,7 +17,7 @@ pub enum Stage {
 }
 
 // The two calls that move the stage.
-#[derive(Clone, Copy)]
+#[derive(Clone, Copy, PartialEq, Eq, Debug)]
 pub enum RowCall<'a> {
     Need(&'a [i32]),
     Price(u32, &'a [i32]),

@@ -7,7 +7,6 @@ ghost use Rattle.settlement.specs.Follow.{GoesOn};
 ghost use Rattle.settlement.specs.Calls.{Supplies, Shows, WorkTable, VerdictGiven};
 ghost use Rattle.settlement.specs.Verdicts.{Judges};
 
-use crate::declines::declined;
 use crate::docket::Docket;
 use crate::sheet::weighing::verdict_of;
 use crate::stages::Rows;
@@ -16,8 +15,8 @@ use fleet::{Entry, FewerLots, Fleet, Gain, MoreLots, first_best};
 use terms::{Cause, Decline};
 
 impl<F: Fleet> Docket<F> {
-    // A unit's best gain, with the least and the greatest lots among its schedules of that gain. Declined with 21, 24,
-    // 30, 32; 31 cannot come.
+    // A unit's best gain, with the fewest and the most lots among its schedules of that gain: a tuple, as the project
+    // has this answer. Declined with 21, 24, 30, 32; 31 cannot come.
     pub fn supply(
         &self,
         unit: usize,
@@ -55,7 +54,7 @@ impl<F: Fleet> Docket<F> {
         let units = self.fleet.units();
         let uplift = self
             .sheet
-            .weigh(&rows.needs, units, self.periods.count(), self.weight)?;
+            .weigh(&rows.needs, units, self.periods, self.weight)?;
         let gap = self.sheet.gap();
         Ok(Judgement {
             verdict: verdict_of(gap),
@@ -68,6 +67,7 @@ impl<F: Fleet> Docket<F> {
 
     // Writes each unit's pay, past the units nothing, and answers uplift, gap and verdict. Declined with 21, 30, 41, 42,
     // 43, 44; 31 cannot come.
+    #[tactic(auto, using(crate::proofs::OneFault::one_fault, crate::proofs::Never::never_31, crate::proofs::Ledgers::ledger_law, crate::proofs::Ledgers::check_law))]
     pub fn judge(&self, pays: &mut [i64]) -> Result<Judgement, Decline>
         ensures goes { GoesOn F.Fleet.meaning self.now self.now (judge (length pays.old)) (λ m T W l. Judges m T W l pays.old pays.new result) }
         ensures kept { KeptAtDecline pays.old pays.new result }
@@ -79,7 +79,7 @@ impl<F: Fleet> Docket<F> {
         let rows = self.sheet.rows(0)?;
         let units = self.fleet.units();
         if pays.len() < units {
-            return Err(declined(Cause::TooLittleRoom, 0));
+            return Err(Cause::TooLittleRoom.at(0));
         }
         let judgement = self.verdict(&rows)?;
         self.sheet.write_pays(units, pays);

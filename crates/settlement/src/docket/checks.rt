@@ -1,9 +1,9 @@
 // Checks that several calls share.
 ghost use Rattle.settlement.specs.Calls.{UnitPrices, Accounted};
 
-use crate::declines::declined;
+use crate::counted::Counted;
 use crate::docket::Docket;
-use fleet::{Account, Entry, Fleet, PriceRow, check_schedule};
+use fleet::{Entry, Fleet, PriceRow, check_schedule};
 use terms::{Cause, Decline};
 
 impl<F: Fleet> Docket<F> {
@@ -13,23 +13,27 @@ impl<F: Fleet> Docket<F> {
     {
         let rows = self.sheet.rows(unit)?;
         if unit >= self.fleet.units() {
-            return Err(declined(Cause::NoSuchUnit, unit));
+            return Err(Cause::NoSuchUnit.at(unit));
         }
         Ok(rows.prices)
     }
 
-    // What a schedule of a unit gains. Declined with 26, then 27.
-    pub(crate) fn account(
+    // A schedule of a unit, with what it gains. Declined with 26, then 27.
+    pub(crate) fn account<'a>(
         &self,
         unit: usize,
         prices: &PriceRow,
-        schedule: &[Entry],
-    ) -> Result<Account, Decline>
+        schedule: &'a [Entry],
+    ) -> Result<Counted<'a>, Decline>
         ensures { Accounted ((F.Fleet.meaning self.now.fleet).model unit) self.now.periods.count prices.now unit schedule.now result }
     {
         if schedule.len() != self.periods.count() {
-            return Err(declined(Cause::ScheduleLength, unit));
+            return Err(Cause::ScheduleLength.at(unit));
         }
-        check_schedule(&self.fleet, unit, prices, schedule)
+        let account = check_schedule(&self.fleet, unit, prices, schedule)?;
+        Ok(Counted {
+            schedule,
+            gain: account.gain,
+        })
     }
 }

@@ -6,7 +6,6 @@ ghost use Rattle.settlement.specs.Reasons.{KeptAtDecline};
 ghost use Rattle.settlement.specs.Follow.{GoesOn};
 ghost use Rattle.settlement.specs.Calls.{Enters, WorkTable};
 
-use crate::declines::declined;
 use crate::docket::Docket;
 use crate::stages::RowCall;
 use fleet::{Entry, Fleet, Gain, best_gain};
@@ -32,8 +31,8 @@ impl<F: Fleet> Docket<F> {
             .enter(self.periods, RowCall::Price(over, numerators))
     }
 
-    // A unit's schedule in the dispatch. Declined with 21, 24, 25, 26, 27, 30;
-    // 31 cannot come.
+    // A unit's schedule in the dispatch. Declined with 21, 24, 25, 26, 27, 30; 31 cannot come.
+    #[tactic(auto, using(fleet::proofs::BestGains::best_gain_law))]
     pub fn run(
         &mut self,
         unit: usize,
@@ -48,11 +47,11 @@ impl<F: Fleet> Docket<F> {
     {
         let prices = self.unit_prices(unit)?;
         if self.sheet.standing(unit).is_some() {
-            return Err(declined(Cause::RunStands, unit));
+            return Err(Cause::RunStands.at(unit));
         }
-        let account = self.account(unit, &prices, schedule)?;
+        let counted = self.account(unit, &prices, schedule)?;
         let best = best_gain(&self.fleet, unit, &prices, table)?;
-        self.sheet.note_run(unit, account.gain, best, schedule);
+        self.sheet.note_run(unit, counted, best);
         Ok(())
     }
 
@@ -63,15 +62,16 @@ impl<F: Fleet> Docket<F> {
         ensures kept { KeptAtDecline self.old self.new result }
     {
         let prices = self.unit_prices(unit)?;
-        let account = self.account(unit, &prices, schedule)?;
-        let Some(standing) = self.sheet.standing(unit) else {
-            return Err(declined(Cause::MixBeforeRun, unit));
-        };
-        if weight < 1 || weight > self.weight.saturating_sub(standing.mixed) {
-            return Err(declined(Cause::MixWeight, unit));
+        let counted = self.account(unit, &prices, schedule)?;
+        let standing = self
+            .sheet
+            .standing(unit)
+            .ok_or(Cause::MixBeforeRun.at(unit))?;
+        let left = self.weight.saturating_sub(standing.mixed);
+        if !(1..=left).contains(&weight) {
+            return Err(Cause::MixWeight.at(unit));
         }
-        self.sheet
-            .note_mix(unit, standing, weight, account.gain, schedule);
+        self.sheet.note_mix(unit, standing, weight, counted);
         Ok(())
     }
 }

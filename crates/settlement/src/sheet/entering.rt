@@ -1,37 +1,13 @@
 // The stage: rows enter and move it.
-ghost use Rattle.std.specs.Prelude.{◌≡◌, ◌<◌, replicate, pos, None, slice_index_or};
+ghost use Rattle.std.specs.Prelude.{◌≡◌, ◌<◌, None, slice_index_or};
 ghost use Rattle.settlement.specs.Reasons.{KeptAtDecline};
-ghost use Rattle.settlement.specs.Sheets.{BlankSheet, RowEntered, SameSums, RowsAt, with_prices};
+ghost use Rattle.settlement.specs.Sheets.{BlankSheet, RowEntered, SameSums, RowsAt};
 
-use crate::declines::declined;
 use crate::sheet::Sheet;
 use crate::stages::{RowCall, Rows, Stage};
 use crate::standing::Standing;
 use fleet::{NeedRow, Periods, PriceRow};
 use terms::{Cause, Decline};
-
-fn no_standing() -> [Option<Standing>; 64]
-    ensures { result ≡ replicate 64 None }
-{
-    [None; 64]
-}
-
-fn no_lots() -> [i64; 48]
-    ensures { result ≡ replicate 48 (pos 0) }
-{
-    [0; 48]
-}
-
-// Needed with its prices is priced.
-fn with_prices(stage: Stage, prices: PriceRow) -> Stage
-    ensures { result ≡ with_prices stage prices }
-{
-    match stage {
-        Stage::Needed(needs) => Stage::Priced(Rows { needs, prices }),
-        Stage::Blank => Stage::Blank,
-        Stage::Priced(rows) => Stage::Priced(rows),
-    }
-}
 
 impl Sheet {
     // A sheet with nothing on it.
@@ -40,9 +16,9 @@ impl Sheet {
     {
         Sheet {
             stage: Stage::Blank,
-            units: no_standing(),
-            runs: no_lots(),
-            mixes: no_lots(),
+            units: [None; 64],
+            runs: [0; 48],
+            mixes: [0; 48],
             gap: 0,
         }
     }
@@ -59,15 +35,12 @@ impl Sheet {
                 self.stage = Stage::Needed(needs);
                 Ok(())
             }
-            (Stage::Needed(_), RowCall::Price(over, numerators)) => {
+            (Stage::Needed(needs), RowCall::Price(over, numerators)) => {
                 let prices = PriceRow::new(periods, over, numerators)?;
-                self.stage = with_prices(self.stage, prices);
+                self.stage = Stage::Priced(Rows { needs, prices });
                 Ok(())
             }
-            (Stage::Needed(_), RowCall::Need(_)) => Err(declined(Cause::WrongStage, 0)),
-            (Stage::Priced(_), RowCall::Need(_)) => Err(declined(Cause::WrongStage, 0)),
-            (Stage::Blank, RowCall::Price(_, _)) => Err(declined(Cause::WrongStage, 0)),
-            (Stage::Priced(_), RowCall::Price(_, _)) => Err(declined(Cause::WrongStage, 0)),
+            _ => Err(Cause::WrongStage.at(0)),
         }
     }
 
@@ -75,11 +48,10 @@ impl Sheet {
     pub(crate) fn rows(&self, place: usize) -> Result<Rows, Decline>
         ensures { RowsAt self.now.stage place result }
     {
-        match self.stage {
-            Stage::Priced(rows) => Ok(rows),
-            Stage::Blank => Err(declined(Cause::WrongStage, place)),
-            Stage::Needed(_) => Err(declined(Cause::WrongStage, place)),
-        }
+        let Stage::Priced(rows) = self.stage else {
+            return Err(Cause::WrongStage.at(place));
+        };
+        Ok(rows)
     }
 
     // The gap so far.
@@ -91,9 +63,8 @@ impl Sheet {
 
     // What stands of a unit, nothing before its run.
     pub(crate) fn standing(&self, unit: usize) -> Option<Standing>
-        requires { unit < 64 }
         ensures { result ≡ slice_index_or self.now.units unit None }
     {
-        self.units[unit]
+        self.units.get(unit).copied().flatten()
     }
 }

@@ -1,124 +1,80 @@
-use Rattle.std.proofs.Common.{length, get_or, None, sym, refl, subst, arith, w64, SFits, rules}
+use Rattle.std.proofs.Common.{length, get_or, None, refl, arith, w64, SFits, rules}
 use Rattle.std.proofs.lemmas.Int.{to_z-of_z}
-use Rattle.terms.specs.Declines.{Says}
-use Rattle.terms.specs.Numbers.{Near}
-use Rattle.terms.specs.declared.decline.Layer.TheVariants.{Docket as DocketLayer}
+use Rattle.terms.specs.declared.decline.Cause.TheVariants.{RunStands}
 use Rattle.terms.proofs.Bounds.{near_64}
-use Rattle.fleet.specs.Rows.{prices_of}
-use Rattle.fleet.specs.Gains.{BestGain}
-use Rattle.fleet.specs.Answers.{Room}
+use Rattle.fleet.specs.Rows.{prices_of, periods_of}
 use Rattle.settlement.specs.Sheets.{RunNoted}
 use Rattle.fleet.proofs.RowFacts.{row_priced}
-use Rattle.fleet.proofs.BestGains.{best_gain_law}
-use Rattle.fleet.proofs.GainBounds.{gain_near, best_near}
+use Rattle.fleet.proofs.GainBounds.{best_near}
 use Rattle.settlement.specs.Ledger.{run}
-use Rattle.settlement.specs.Reasons.{KeptAtDecline}
 use Rattle.settlement.specs.Follow.{GoesOn}
-use Rattle.settlement.specs.Calls.{Enters, WorkTable}
-use Rattle.settlement.proofs.UnitCalls.{passed_on, allowed_lots, stood_is, not_stood, table_kept, table_searched, table_used, run_21_24, run_25, run_26_27, run_30, run_taken}
+use Rattle.settlement.specs.Calls.{Enters}
+use Rattle.terms.proofs.Says.{says}
+use Rattle.settlement.proofs.UnitCalls.{at_passed, stood_is, not_stood, run_21_24, run_25, run_26_27, run_30, run_taken}
 use Rattle.settlement.proofs.docket.Docket.run.Goals as goal
 
-pub returns-in_err-prices : goal.returns-in_err-prices
-returns-in_err-prices g c =
+pub returns-in_err-prices-clause-goes : goal.returns-in_err-prices-clause-goes
+returns-in_err-prices-clause-goes g c =
     let d = c.args.self.now in
     let mean = g.F.Fleet.meaning in
     let sound = g.met.F.Fleet.sound d.fleet in
     let es = c.args.schedule.now in
     let slots = length c.args.table.now in
     let e = c.in_err-prices.field-0.0 in
-    let is = passed_on c.from_residual.result e c.from_residual.ensures.1 in
-    record {
-      goes = subst (λ r. GoesOn mean d d (run c.args.unit es slots) (Enters (run c.args.unit es slots) r)) (sym is) (run_21_24 mean d sound c.args.unit es slots e c.in_err-prices.ensures);
-      fleet = refl;
-      kept = subst (λ r. KeptAtDecline d d r) (sym is) refl;
-      table = table_kept c.args.table.now c.from_residual.result;
-      best = best_gain_law;
-    }
+    at_passed (λ r. GoesOn mean d d (run c.args.unit es slots) (Enters (run c.args.unit es slots) r)) c.from_residual.result e c.from_residual.ensures.1 (run_21_24 mean d sound c.args.unit es slots e c.in_err-prices.ensures)
 
-pub returns-then-is_some : goal.returns-then-is_some
-returns-then-is_some g c =
+pub returns-then-is_some-clause-goes : goal.returns-then-is_some-clause-goes
+returns-then-is_some-clause-goes g c =
     let d = c.args.self.now in
     let mean = g.F.Fleet.meaning in
     let sound = g.met.F.Fleet.sound d.fleet in
     let es = c.args.schedule.now in
     let slots = length c.args.table.now in
     let stood = stood_is c.standing.result (get_or d.sheet.units c.args.unit None) c.standing.ensures c.if-is_some.ensures in
-    record {
-      goes = run_25 mean d sound c.args.unit es slots c.in_ok-prices.prices c.in_ok-prices.ensures c.declined.result stood (subst (Says DocketLayer 25 c.args.unit) (sym c.declined.ensures) (record { layer = refl; number = refl; place = refl }));
-      fleet = refl;
-      kept = refl;
-      table = table_kept c.args.table.now _;
-      best = best_gain_law;
-    }
+    run_25 mean d sound c.args.unit es slots c.in_ok-prices.prices c.in_ok-prices.ensures c.at.result stood (says RunStands c.args.unit c.at.result c.at.ensures)
 
-pub returns-in_err-account : goal.returns-in_err-account
-returns-in_err-account g c =
+pub returns-in_err-counted-clause-goes : goal.returns-in_err-counted-clause-goes
+returns-in_err-counted-clause-goes g c =
     let d = c.args.self.now in
     let mean = g.F.Fleet.meaning in
     let sound = g.met.F.Fleet.sound d.fleet in
     let es = c.args.schedule.now in
     let slots = length c.args.table.now in
-    let e = c.in_err-account.field-0.0 in
-    let is = passed_on c.from_residual-in_err-account.result e c.from_residual-in_err-account.ensures.1 in
+    let e = c.in_err-counted.field-0.0 in
     let first = not_stood c.standing.result (get_or d.sheet.units c.args.unit None) c.standing.ensures c.if-is_some.ensures in
-    record {
-      goes = subst (λ r. GoesOn mean d d (run c.args.unit es slots) (Enters (run c.args.unit es slots) r)) (sym is) (run_26_27 mean d sound c.args.unit es slots c.in_ok-prices.prices c.in_ok-prices.ensures first e c.in_err-account.ensures);
-      fleet = refl;
-      kept = subst (λ r. KeptAtDecline d d r) (sym is) refl;
-      table = table_kept c.args.table.now c.from_residual-in_err-account.result;
-      best = best_gain_law;
-    }
+    at_passed (λ r. GoesOn mean d d (run c.args.unit es slots) (Enters (run c.args.unit es slots) r)) c.from_residual-in_err-counted.result e c.from_residual-in_err-counted.ensures.1 (run_26_27 mean d sound c.args.unit es slots c.in_ok-prices.prices c.in_ok-prices.ensures first e c.in_err-counted.ensures)
 
-pub returns-in_err-best : goal.returns-in_err-best
-returns-in_err-best g c =
+pub returns-in_err-best-clause-goes : goal.returns-in_err-best-clause-goes
+returns-in_err-best-clause-goes g c =
     let d = c.args.self.now in
     let mean = g.F.Fleet.meaning in
-    let m = mean d.fleet in
     let sound = g.met.F.Fleet.sound d.fleet in
     let u = c.args.unit in
     let es = c.args.schedule.now in
     let old = c.args.table.now in
-    let new = c.best_gain.new.table in
     let row = c.in_ok-prices.prices in
     let e = c.in_err-best.field-0.0 in
-    let is = passed_on c.from_residual-in_err-best.result e c.from_residual-in_err-best.ensures.1 in
     let first = not_stood c.standing.result (get_or d.sheet.units u None) c.standing.ensures c.if-is_some.ensures in
     let found = c.in_err-best.ensures in
-    record {
-      goes = subst (λ r. GoesOn mean d d (run u es (length old)) (Enters (run u es (length old)) r)) (sym is) (run_30 mean d sound u es (length old) row c.in_ok-prices.ensures first c.in_ok-account.account c.in_ok-account.ensures e found.best);
-      fleet = refl;
-      kept = subst (λ r. KeptAtDecline d d r) (sym is) refl;
-      table = subst (λ r. WorkTable old new r) (sym is) (table_searched (Room (length old)) (m.model u) row.periods u (BestGain (m.model u) row.periods (prices_of row)) old new e found.best found.table);
-      best = best_gain_law;
-    }
+    at_passed (λ r. GoesOn mean d d (run u es (length old)) (Enters (run u es (length old)) r)) c.from_residual-in_err-best.result e c.from_residual-in_err-best.ensures.1 (run_30 mean d sound u es (length old) row c.in_ok-prices.ensures first c.in_ok-counted.counted c.in_ok-counted.ensures e found.best)
 
-pub note_run-requires : goal.note_run-requires
-note_run-requires g c =
+pub note_run-requires-clause-unit : goal.note_run-requires-clause-unit
+note_run-requires-clause-unit g c =
+    let below = c.in_ok-prices.ensures.1 in
+    let few = (g.met.F.Fleet.sound c.args.self.now.fleet).few in
+    omega (arith, below, few)
+
+pub note_run-requires-clause-best : goal.note_run-requires-clause-best
+note_run-requires-clause-best g c =
     let d = c.args.self.now in
-    let sound = g.met.F.Fleet.sound d.fleet in
-    let sp = sound.each c.args.unit in
+    let sp = (g.met.F.Fleet.sound d.fleet).each c.args.unit in
     let p = (g.F.Fleet.meaning d.fleet).model c.args.unit in
     let row = c.in_ok-prices.prices in
-    let es = c.args.schedule.now in
-    let fine = c.in_ok-account.ensures in
-    let found = c.in_ok-best.ensures.best in
-    let below = c.in_ok-prices.ensures.1 in
-    let few = sound.few in
-    let long = d.periods.few in
-    let size = fine.0 in
-    let gain : Near 48000000000000 c.in_ok-account.account.gain = subst (Near 48000000000000) (sym fine.2) (gain_near p sp (prices_of row) (row_priced row) es fine.1) in
-    let best : Near 48000000000000 c.in_ok-best.best = best_near p sp row.periods (prices_of row) (row_priced row) c.in_ok-best.best found.1 in
-    record {
-      unit = omega (arith, below, few);
-      first = not_stood c.standing.result (get_or d.sheet.units c.args.unit None) c.standing.ensures c.if-is_some.ensures;
-      gain = near_64 48000000000000 c.in_ok-account.account.gain (omega arith) gain;
-      best = near_64 48000000000000 c.in_ok-best.best (omega arith) best;
-      short = omega (arith, size, long);
-      lots = allowed_lots p sp es fine.1;
-    }
+    let b = c.in_ok-best.best in
+    near_64 48000000000000 b (omega arith) (best_near p sp (periods_of row) (prices_of row) (row_priced row) b c.in_ok-best.ensures.best.1)
 
-pub returns : goal.returns
-returns g c =
+pub returns-clause-goes : goal.returns-clause-goes
+returns-clause-goes g c =
     let d = c.args.self.now in
     let mean = g.F.Fleet.meaning in
     let sound = g.met.F.Fleet.sound d.fleet in
@@ -126,20 +82,14 @@ returns g c =
     let es = c.args.schedule.now in
     let old = c.args.table.now in
     let row = c.in_ok-prices.prices in
-    let k = c.in_ok-account.account in
+    let k = c.in_ok-counted.counted in
+    let fine = c.in_ok-counted.ensures in
     let b = c.in_ok-best.best in
     let first = not_stood c.standing.result (get_or d.sheet.units u None) c.standing.ensures c.if-is_some.ensures in
     let found = c.in_ok-best.ensures in
     let below = c.in_ok-prices.ensures.1 in
     let few = sound.few in
     let long = d.sheet.long in
-    let fg : SFits w64 k.gain = search rules in
     let fb : SFits w64 b = search rules in
-    let noted : RunNoted u k.gain b es d.sheet c.note_run.new.self = let h = c.note_run.ensures in rw (to_z-of_z w64 k.gain fg, to_z-of_z w64 b fb) at h in
-    record {
-      goes = run_taken mean d sound u es (length old) row c.in_ok-prices.ensures first k c.in_ok-account.ensures _ b refl refl refl found.best.0 found.best.1 noted (omega (arith, below, few, long));
-      fleet = refl;
-      kept = tt;
-      table = table_used old c.best_gain.new.table tt found.table.long;
-      best = best_gain_law;
-    }
+    let noted : RunNoted u k.gain b es d.sheet c.note_run.new.self = let h = c.note_run.ensures in rw (to_z-of_z w64 b fb, fine.3) at h in
+    run_taken mean d sound u es (length old) row c.in_ok-prices.ensures first k fine _ b refl refl refl found.best.0 found.best.1 noted (omega (arith, below, few, long))

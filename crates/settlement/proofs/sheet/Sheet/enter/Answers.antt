@@ -1,30 +1,20 @@
-use Rattle.std.proofs.Common.{refl, ap, ◌∙◌}
+use Rattle.std.proofs.Common.{refl}
 use Rattle.fleet.specs.Rows.{need_fault, price_fault, NeedRowOf, PriceRowOf}
-use Rattle.settlement.specs.Sheets.{with_prices}
 use Rattle.settlement.proofs.SheetFacts.{made_yes}
 use Rattle.settlement.proofs.sheet.Sheet.enter.Goals as goal
 
-pub returns-in_ok-needs-in-Blank-Need : goal.returns-in_ok-needs-in-Blank-Need
-returns-in_ok-needs-in-Blank-Need c =
+pub returns-in_ok-needs-in-Blank-Need-clause-entered : goal.returns-in_ok-needs-in-Blank-Need-clause-entered
+returns-in_ok-needs-in-Blank-Need-clause-entered c =
     let T = c.args.periods.count in
     let xs = c.in-Blank-Need.wanted.now in
     let made = made_yes (need_fault T xs) (NeedRowOf T xs) c.in_ok-needs-in-Blank-Need.needs c.in_ok-needs-in-Blank-Need.ensures.made in
-    record {
-      entered = rw (c.in-Blank-Need.is-0, c.in-Blank-Need.is-1) (c.in_ok-needs-in-Blank-Need.needs, refl, made.1, made.0);
-      sums = record { units_are = refl; runs_are = refl; mixes_are = refl; gap_is = refl };
-      kept = tt;
-    }
+    rw (c.in-Blank-Need.is-0, c.in-Blank-Need.is-1) (c.in_ok-needs-in-Blank-Need.needs, refl, made.1, made.0)
 
-pub returns-in_ok-prices-in-Needed-Price : goal.returns-in_ok-prices-in-Needed-Price
-returns-in_ok-prices-in-Needed-Price c =
+pub returns-in_ok-prices-in-Needed-Price-clause-entered : goal.returns-in_ok-prices-in-Needed-Price-clause-entered
+returns-in_ok-prices-in-Needed-Price-clause-entered c =
     let T = c.args.periods.count in
     let d = c.in-Needed-Price.over in
     let ns = c.in-Needed-Price.numerators.now in
     let row = c.in_ok-prices-in-Needed-Price.prices in
     let made = made_yes (price_fault T d ns) (PriceRowOf T d ns) row c.in_ok-prices-in-Needed-Price.ensures.made in
-    let moved = c.with_prices-self.ensures ∙ ap (λ s. with_prices s row) c.in-Needed-Price.is-0 in
-    record {
-      entered = rw (c.in-Needed-Price.is-0, c.in-Needed-Price.is-1) (row, moved, made.1, made.0);
-      sums = record { units_are = refl; runs_are = refl; mixes_are = refl; gap_is = refl };
-      kept = tt;
-    }
+    rw (c.in-Needed-Price.is-0, c.in-Needed-Price.is-1) (row, refl, made.1, made.0)

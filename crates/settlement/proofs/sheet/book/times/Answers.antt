@@ -15,8 +15,5 @@ weight_is c = to_z-of_z w64 c.from.result (search rules) ∙ c.from.ensures
 lots_are : (c : goal.After-from-2) → to_z w64 (of_z w64 c.from-2.result) ≡ c.args.lots
 lots_are c = to_z-of_z w64 c.from-2.result (search rules) ∙ c.from-2.ensures ∙ to_z-of_z w32 c.args.lots c.ranges.lots
 
-pub overflow_mul-result : goal.overflow_mul-result
-overflow_mul-result c = rw (weight_is c, lots_are c) (fits c)
-
 pub returns : goal.returns
 returns c = rw (weight_is c, lots_are c) (to_z-of_z w64 (pos c.args.weight *ℤ c.args.lots) (fits c))
