@@ -1,24 +1,28 @@
 // Small drawn fleets, with every schedule tried one by one and held against the searches' answers.
 #![tactic(auto)]
 
+ghost use Rattle.std.specs.Prelude.{◌<◌, max};
+
 use fleet::{
     Entry, Fleet, Periods, PriceRow, SLOTS, best_gain, check_schedule, first_best, supply,
 };
 use fleet_kinds::{ArcRow, ArcTable, Outage, Outages};
 use std::alloc::{AllocError, Global};
+use std::cmp::Ordering;
 
 // Three states and the outputs -2 to 3, in reading order.
-const CHOICES: usize = 18;
-
-fn choice(k: usize) -> Entry {
-    Entry {
-        state: k / 6 % 3,
-        output: (k % 6) as i32 - 2,
+fn choices(heap: Global) -> Result<Vec<Entry>, AllocError> {
+    let mut choices = Vec::new(heap);
+    for state in 0..3 {
+        for output in -2..=3 {
+            choices.push(Entry { state, output })?;
+        }
     }
+    Ok(choices)
 }
 
-// The best of the schedules tried so far: the gain, the fewest and the most lots, and the first of them.
-#[derive(Clone, Copy)]
+// The best of some schedules: the gain, the fewest and the most lots, and the first of them.
+#[derive(Clone, Copy, PartialEq)]
 struct Found {
     gain: i64,
     least: i64,
@@ -26,56 +30,49 @@ struct Found {
     first: [Entry; 3],
 }
 
-fn with(found: Option<Found>, gain: i64, schedule: [Entry; 3]) -> Option<Found> {
-    let [a, b, c] = schedule;
-    let lots = i64::from(a.output)
-        .saturating_add(i64::from(b.output))
-        .saturating_add(i64::from(c.output));
-    let one = Found {
-        gain,
-        least: lots,
-        most: lots,
-        first: schedule,
-    };
-    match found {
-        None => Some(one),
-        Some(had) => {
-            if gain > had.gain {
-                return Some(one);
-            }
-            if gain < had.gain {
-                return Some(had);
-            }
-            let least = had.least.min(lots);
-            let most = had.most.max(lots);
-            let first = had.first;
-            Some(Found {
-                gain,
-                least,
-                most,
-                first,
-            })
+impl Found {
+    // One schedule alone.
+    fn one(gain: i64, schedule: [Entry; 3]) -> Found {
+        let lots = schedule.iter().fold(
+            0i64,
+            |lots, step| lots.saturating_add(i64::from(step.output)),
+        );
+        Found {
+            gain,
+            least: lots,
+            most: lots,
+            first: schedule,
+        }
+    }
+
+    // Of both, where the other's schedules come later.
+    fn with(self, later: Found) -> Found {
+        match later.gain.cmp(&self.gain) {
+            Ordering::Greater => later,
+            Ordering::Less => self,
+            Ordering::Equal => Found {
+                least: self.least.min(later.least),
+                most: self.most.max(later.most),
+                ..self
+            },
         }
     }
 }
 
-fn try_all<F: Fleet>(fleet: &F, row: &PriceRow) -> Option<Found> {
-    let mut found = None;
-    for i in 0..CHOICES {
-        for j in 0..CHOICES {
-            for k in 0..CHOICES {
-                let schedule = [choice(i), choice(j), choice(k)];
+fn try_all<F: Fleet>(fleet: &F, row: &PriceRow, choices: &[Entry]) -> Option<Found> {
+    let mut found: Option<Found> = None;
+    for a in choices {
+        for b in choices {
+            for c in choices {
+                let schedule = [*a, *b, *c];
                 if let Ok(account) = check_schedule(fleet, 0, row, &schedule) {
-                    found = with(found, account.gain, schedule);
+                    let one = Found::one(account.gain, schedule);
+                    found = Some(found.map_or(one, |found| found.with(one)));
                 }
             }
         }
     }
     found
-}
-
-fn same(a: &Entry, b: &Entry) -> bool {
-    a.state == b.state && a.output == b.output
 }
 
 // The searches' answers for unit 0, or nothing where they are declined.
@@ -87,12 +84,8 @@ fn search_all<F: Fleet>(fleet: &F, row: &PriceRow) -> Option<Found> {
         state: 0,
         output: 0,
     }; 3];
-    let Ok((gain, least, most)) = supply(fleet, 0, row, &mut fewer, &mut more) else {
-        return None;
-    };
-    if first_best(fleet, 0, row, &mut table, &mut first).is_err() {
-        return None;
-    }
+    let (gain, least, most) = supply(fleet, 0, row, &mut fewer, &mut more).ok()?;
+    first_best(fleet, 0, row, &mut table, &mut first).ok()?;
     Some(Found {
         gain,
         least,
@@ -101,107 +94,116 @@ fn search_all<F: Fleet>(fleet: &F, row: &PriceRow) -> Option<Found> {
     })
 }
 
-fn same_answer(a: &Found, b: &Found) -> bool {
-    let [p, q, r] = a.first;
-    let [x, y, z] = b.first;
-    let numbers = a.gain == b.gain && a.least == b.least && a.most == b.most;
-    numbers && same(&p, &x) && same(&q, &y) && same(&r, &z)
-}
-
 // The searches' answers, held against all schedules tried one by one.
-fn agrees<F: Fleet>(fleet: &F, row: &PriceRow) -> bool {
+fn agrees<F: Fleet>(fleet: &F, row: &PriceRow, choices: &[Entry]) -> bool {
     let mut table = [None; SLOTS];
-    let best = best_gain(fleet, 0, row, &mut table);
-    match (search_all(fleet, row), try_all(fleet, row)) {
-        (Some(a), Some(b)) => match best {
-            Ok(best) => best == b.gain && same_answer(&a, &b),
-            Err(_) => false,
-        },
-        (None, None) => best.is_err(),
-        _ => false,
+    let best = best_gain(fleet, 0, row, &mut table).ok();
+    let found = try_all(fleet, row, choices);
+    search_all(fleet, row) == found && best == found.map(|found| found.gain)
+}
+
+// Drawn numbers, the same in each run.
+#[derive(Drop)]
+struct Draws {
+    seed: u32,
+}
+
+impl Draws {
+    // A number below n.
+    fn below(&mut self, n: u32) -> u32
+        ensures { result < max n 1 }
+    {
+        self.seed = self
+            .seed
+            .wrapping_mul(1_664_525)
+            .wrapping_add(1_013_904_223);
+        (self.seed >> 16) % n.max(1)
+    }
+
+    // One of the n numbers from low on. The casts narrow numbers that `below` has just bounded.
+    fn number_from(&mut self, low: i8, n: u8) -> i32 {
+        i32::from(low) + self.below(u32::from(n)) as i32
+    }
+
+    // One of the first three, from 0 on.
+    fn of_three(&mut self) -> usize {
+        self.below(3) as usize
+    }
+
+    fn row(&mut self) -> ArcRow {
+        ArcRow {
+            unit: 0,
+            period: self.of_three(),
+            from: self.of_three(),
+            to: self.of_three(),
+            lo: self.number_from(-2, 4),
+            hi: self.number_from(-2, 6),
+            base: self.number_from(-3, 7),
+            rate: self.number_from(-2, 5),
+        }
+    }
+
+    fn fleet(&mut self, heap: Global) -> Result<ArcTable, AllocError> {
+        let mut rows = Vec::new(heap);
+        for _ in 0..24 {
+            rows.push(self.row())?;
+        }
+        Ok(ArcTable::new(1, rows))
+    }
+
+    fn prices(&mut self) -> Option<PriceRow> {
+        let numerators = [
+            self.number_from(-4, 9),
+            self.number_from(-4, 9),
+            self.number_from(-4, 9),
+        ];
+        let over = 1 + self.below(3);
+        PriceRow::new(Periods::new(3)?, over, &numerators).ok()
+    }
+
+    fn outage(&mut self) -> Outage {
+        Outage {
+            unit: 0,
+            first: self.of_three(),
+            last: self.of_three(),
+        }
     }
 }
 
-// A number below n.
-fn draw(seed: &mut u32, n: u32) -> u32 {
-    *seed = seed.wrapping_mul(1_664_525).wrapping_add(1_013_904_223);
-    (*seed >> 16) % n.max(1)
+// How many fleets agree, and of how many.
+#[derive(Drop, Default)]
+struct Tally {
+    agreed: u32,
+    tried: u32,
 }
 
-fn between(seed: &mut u32, low: i8, n: u8) -> i32 {
-    let step = (draw(seed, n as u32) & 0xff) as i32;
-    low as i32 + step
-}
-
-fn drawn_row(seed: &mut u32) -> ArcRow {
-    let period = draw(seed, 3) as usize;
-    let from = draw(seed, 3) as usize;
-    let to = draw(seed, 3) as usize;
-    let lo = between(seed, -2, 4);
-    let hi = between(seed, -2, 6);
-    let base = between(seed, -3, 7);
-    let rate = between(seed, -2, 5);
-    ArcRow {
-        unit: 0,
-        period,
-        from,
-        to,
-        lo,
-        hi,
-        base,
-        rate,
+impl Tally {
+    fn count(&mut self, agrees: bool) {
+        self.agreed = self.agreed.saturating_add(u32::from(agrees));
+        self.tried = self.tried.saturating_add(1);
     }
 }
 
-fn drawn_fleet(heap: Global, seed: &mut u32) -> Result<ArcTable, AllocError> {
-    let mut rows = Vec::new(heap);
-    for _ in 0..24 {
-        rows.push(drawn_row(seed))?;
-    }
-    Ok(ArcTable::new(1, rows))
-}
-
-fn drawn_prices(seed: &mut u32) -> Option<PriceRow> {
-    let numerators = [
-        between(seed, -4, 9),
-        between(seed, -4, 9),
-        between(seed, -4, 9),
-    ];
-    let over = 1 + draw(seed, 3) % 3;
-    let day = Periods::new(3)?;
-    match PriceRow::new(day, over, &numerators) {
-        Ok(row) => Some(row),
-        Err(_) => None,
-    }
-}
-
-// How many drawn fleets agree, and of how many; each is tried with and without an outage, where that is taken.
-fn try_fleets(heap: Global, seed: &mut u32, fleets: u32) -> Result<(u32, u32), AllocError> {
-    let mut tried = 0u32;
-    let mut agreed = 0u32;
+// Each fleet is tried with and without an outage, where that is taken.
+fn try_fleets(heap: Global, draws: &mut Draws, fleets: u32) -> Result<Tally, AllocError> {
+    let choices = choices(heap)?;
+    let mut tally = Tally::default();
     for _ in 0..fleets {
-        let fleet = drawn_fleet(heap, seed)?;
-        let Some(row) = drawn_prices(seed) else {
+        let fleet = draws.fleet(heap)?;
+        let Some(row) = draws.prices() else {
             continue;
         };
-        tried = tried.saturating_add(2);
-        agreed = agreed.saturating_add(agrees(&fleet, &row) as u32);
+        tally.count(agrees(&fleet, &row, &choices));
         let mut under = Outages::new(fleet);
-        let first = draw(seed, 3) as usize;
-        let last = draw(seed, 3) as usize;
-        let _ = under.add(Outage {
-            unit: 0,
-            first,
-            last,
-        });
-        agreed = agreed.saturating_add(agrees(&under, &row) as u32);
+        let _ = under.add(draws.outage());
+        tally.count(agrees(&under, &row, &choices));
     }
-    Ok((agreed, tried))
+    Ok(tally)
 }
 
 fn main(rt: HostRuntime) -> anyhow::Result<()> {
-    let mut seed = 7;
-    let (agreed, tried) = try_fleets(rt.alloc(), &mut seed, 100)?;
+    let mut draws = Draws { seed: 7 };
+    let Tally { agreed, tried } = try_fleets(rt.alloc(), &mut draws, 100)?;
     println!(rt; "{agreed} of {tried} fleets agree")?;
     Ok(())
 }

@@ -1,6 +1,6 @@
 // What each unit is due, and the uplift.
 ghost use Rattle.std.specs.Prelude.{length};
-ghost use Rattle.fleet.specs.Rows.{prices_of};
+ghost use Rattle.fleet.specs.Rows.{periods_of, prices_of};
 ghost use Rattle.fleet.specs.Answers.{Room, Free};
 ghost use Rattle.docket.specs.Pays.{PayAnswer, SettleAnswer};
 
@@ -23,8 +23,8 @@ pub struct Settled {
     pub uplift: i64,
 }
 
-// Checks a unit's run and searches its best gain. Declined with 26 where the run is not as long as the day, then as the
-// two are, in this order.
+// Checks a unit's run and searches its best gain, asked of fleet, unit and row as these two are. Declined with 26
+// where the run is not as long as the day, then as the two are, in this order.
 pub fn pay_of<F: Fleet>(
     fleet: &F,
     unit: usize,
@@ -32,14 +32,11 @@ pub fn pay_of<F: Fleet>(
     schedule: &[Entry],
     table: &mut [Option<Gain>],
 ) -> Result<Pay, Decline>
-    ensures pay { PayAnswer (Room (length table.old)) ((F.Fleet.meaning fleet.now).model unit) row.now.periods (prices_of row.now) unit schedule.now result }
+    ensures pay { PayAnswer (Room (length table.old)) ((F.Fleet.meaning fleet.now).model unit) (periods_of row.now) (prices_of row.now) unit schedule.now result }
     ensures table { Free (Room (length table.old)) table.old table.new }
 {
     if schedule.len() != row.periods() {
-        return Err(Decline {
-            cause: Cause::ScheduleLength,
-            place: unit,
-        });
+        return Err(Cause::ScheduleLength.at(unit));
     }
     let account = check_schedule(fleet, unit, row, schedule)?;
     let best = best_gain(fleet, unit, row, table)?;
@@ -58,7 +55,7 @@ pub fn settle<F: Fleet>(
     second: &[Entry],
     table: &mut [Option<Gain>],
 ) -> Result<Settled, Decline>
-    ensures settled { SettleAnswer (Room (length table.old)) (F.Fleet.meaning fleet.now) row.now.periods (prices_of row.now) first.now second.now result }
+    ensures settled { SettleAnswer (Room (length table.old)) (F.Fleet.meaning fleet.now) (periods_of row.now) (prices_of row.now) first.now second.now result }
     ensures table { Free (Room (length table.old)) table.old table.new }
 {
     let first = pay_of(fleet, 0, row, first, table)?;

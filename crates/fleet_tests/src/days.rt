@@ -1,7 +1,7 @@
 // Small fleets and what is asked of them.
 #[cfg(test)]
 mod tests {
-    use crate::said;
+    use decline_numbers::said;
     use fleet::{
         Entry, FewerLots, Fleet, Gain, MoreLots, NeedRow, Periods, PriceRow, SLOTS, best_gain,
         check_schedule, first_best, supply,
@@ -10,6 +10,7 @@ mod tests {
     use std::alloc::{AllocError, Global};
     use std::test::Fail;
     use terms::{Cause, Decline};
+    use worked_units::{EIGHT_LOTS, FOUR_LOTS, ROWS};
 
     fn arc(
         period: usize,
@@ -32,18 +33,21 @@ mod tests {
         }
     }
 
+    fn entry(state: usize, output: i32) -> Entry {
+        Entry { state, output }
+    }
+
+    fn outage(unit: usize, first: usize, last: usize) -> Outage {
+        Outage { unit, first, last }
+    }
+
     fn table(heap: Global, units: usize, rows: &[ArcRow]) -> Result<ArcTable, AllocError> {
         Ok(ArcTable::new(units, rows.to_vec(heap)?))
     }
 
     fn prices(over: u32, numerators: &[i32]) -> Result<PriceRow, Decline> {
-        match Periods::new(numerators.len()) {
-            Some(periods) => PriceRow::new(periods, over, numerators),
-            None => Err(Decline {
-                cause: Cause::PeriodsOrWeight,
-                place: 0,
-            }),
-        }
+        let periods = Periods::new(numerators.len()).ok_or(Cause::PeriodsOrWeight.at(0))?;
+        PriceRow::new(periods, over, numerators)
     }
 
     const OFF: Entry = Entry {
@@ -51,76 +55,54 @@ mod tests {
         output: 0,
     };
 
-    // Off, or on with 1 to 10 lots at 5 cents.
-    const FIRST: [ArcRow; 2] = [
-        ArcRow {
-            unit: 0,
-            period: 0,
-            from: 0,
-            to: 0,
-            lo: 0,
-            hi: 0,
-            base: 0,
-            rate: 0,
-        },
-        ArcRow {
-            unit: 0,
-            period: 0,
-            from: 0,
-            to: 1,
-            lo: 1,
-            hi: 10,
-            base: 0,
-            rate: 5,
-        },
-    ];
+    // Unit 0 of the worked units: off, or on with 1 to 10 lots at 5 cents.
+    fn first_worked(heap: Global) -> Result<ArcTable, AllocError> {
+        table(heap, 1, &ROWS[..2])
+    }
 
     #[test]
     fn worked_unit(rt: HostRuntime) -> Result<(), Fail> {
         let heap = rt.alloc();
-        let fleet = table(heap, 1, &FIRST)?;
+        let fleet = first_worked(heap)?;
         let row = prices(1, &[6])?;
         let mut slots = [None; SLOTS];
         assert_eq!(rt; best_gain(&fleet, 0, &row, &mut slots)?, 10);
-        let run = check_schedule(
-            &fleet,
-            0,
-            &row,
-            &[Entry {
-                state: 1,
-                output: 8,
-            }],
-        )?;
+        let run = check_schedule(&fleet, 0, &row, &EIGHT_LOTS)?;
         assert_eq!(rt; run.gain, 8);
         assert_eq!(rt; run.cost, 40);
         assert_eq!(rt;
-            said(check_schedule(
-                &fleet,
-                0,
-                &row,
-                &[Entry {
-                    state: 1,
-                    output: 11,
-                }],
-            )),
-            (27, 0)
+            said(check_schedule(&fleet, 0, &row, &[entry(1, 11)])),
+            Err((27, 0))
         );
-        assert_eq!(rt; said(check_schedule(&fleet, 0, &row, &[OFF, OFF])), (27, 1));
-        assert_eq!(rt; said(best_gain(&fleet, 1, &row, &mut slots)), (32, 1));
+        assert_eq!(rt;
+            said(check_schedule(&fleet, 0, &row, &[OFF, OFF])),
+            Err((27, 1))
+        );
+        assert_eq!(rt; said(best_gain(&fleet, 1, &row, &mut slots)), Err((32, 1)));
+        Ok(())
+    }
+
+    // Unit 1 is on for 4 lots alone, which cost 24 cents.
+    #[test]
+    fn both_worked_units(rt: HostRuntime) -> Result<(), Fail> {
+        let fleet = worked_units::fleet(rt.alloc())?;
+        let row = prices(1, &[7])?;
+        let mut slots = [None; SLOTS];
+        assert_eq!(rt; fleet.units(), 2);
+        assert_eq!(rt; best_gain(&fleet, 0, &row, &mut slots)?, 20);
+        assert_eq!(rt; best_gain(&fleet, 1, &row, &mut slots)?, 4);
+        assert_eq!(rt; check_schedule(&fleet, 1, &row, &FOUR_LOTS)?.cost, 24);
         Ok(())
     }
 
     #[test]
     fn supply_at_the_margin(rt: HostRuntime) -> Result<(), Fail> {
         let heap = rt.alloc();
-        let fleet = table(heap, 1, &FIRST)?;
+        let fleet = first_worked(heap)?;
         let row = prices(1, &[5])?;
         let mut fewer = [None; SLOTS];
         let mut more = [None; SLOTS];
-        let (best, least, most) = supply(&fleet, 0, &row, &mut fewer, &mut more)?;
-        assert_eq!(rt; best, 0);
-        assert_eq!(rt; least, 0);
-        assert_eq!(rt; most, 10);
+        assert_eq!(rt; supply(&fleet, 0, &row, &mut fewer, &mut more)?, (0, 0, 10));
         Ok(())
     }
 
@@ -137,8 +119,7 @@ mod tests {
         let mut slots = [None; SLOTS];
         let mut out = [OFF; 3];
         first_best(&fleet, 0, &row, &mut slots, &mut out)?;
-        assert_eq!(rt; out[0].state, 7);
-        assert_eq!(rt; out[0].output, -3);
+        assert_eq!(rt; out[0], entry(7, -3));
         assert_eq!(rt; out[1].state, 0);
         Ok(())
     }
@@ -150,9 +131,15 @@ mod tests {
         assert_eq!(rt; fleet.units(), 64);
         let row = prices(7, &[1, 2, 3])?;
         let mut slots = [None; SLOTS];
-        assert_eq!(rt; said(best_gain(&fleet, 63, &row, &mut slots)), (32, 63));
+        assert_eq!(rt;
+            said(best_gain(&fleet, 63, &row, &mut slots)),
+            Err((32, 63))
+        );
         let mut short = [None; 3919];
-        assert_eq!(rt; said(best_gain(&fleet, 63, &row, &mut short)), (30, 63));
+        assert_eq!(rt;
+            said(best_gain(&fleet, 63, &row, &mut short)),
+            Err((30, 63))
+        );
         Ok(())
     }
 
@@ -167,43 +154,14 @@ mod tests {
         let row = prices(1, &[10, 10])?;
         let mut slots = [None; SLOTS];
         assert_eq!(rt; best_gain(&fleet, 0, &row, &mut slots)?, 47);
-        fleet.add(Outage {
-            unit: 0,
-            first: 1,
-            last: 1,
-        })?;
+        fleet.add(outage(0, 1, 1))?;
         // The second period now puts out 0, and still costs 7.
         assert_eq!(rt; best_gain(&fleet, 0, &row, &mut slots)?, 20);
-        assert_eq!(rt;
-            said(fleet.add(Outage {
-                unit: 1,
-                first: 0,
-                last: 0,
-            })),
-            (14, 0)
-        );
-        assert_eq!(rt;
-            said(fleet.add(Outage {
-                unit: 0,
-                first: 1,
-                last: 0,
-            })),
-            (14, 0)
-        );
-        assert_eq!(rt;
-            said(fleet.add(Outage {
-                unit: 0,
-                first: 0,
-                last: 48,
-            })),
-            (14, 0)
-        );
-        fleet.add(Outage {
-            unit: 0,
-            first: 0,
-            last: 0,
-        })?;
-        assert_eq!(rt; said(best_gain(&fleet, 0, &row, &mut slots)), (32, 0));
+        assert_eq!(rt; said(fleet.add(outage(1, 0, 0))), Err((14, 0)));
+        assert_eq!(rt; said(fleet.add(outage(0, 1, 0))), Err((14, 0)));
+        assert_eq!(rt; said(fleet.add(outage(0, 0, 48))), Err((14, 0)));
+        fleet.add(outage(0, 0, 0))?;
+        assert_eq!(rt; said(best_gain(&fleet, 0, &row, &mut slots)), Err((32, 0)));
         Ok(())
     }
 
@@ -211,20 +169,9 @@ mod tests {
     fn seventeenth_outage(rt: HostRuntime) -> Result<(), Fail> {
         let mut fleet = Outages::new(table(rt.alloc(), 1, &[])?);
         for _ in 0..16 {
-            fleet.add(Outage {
-                unit: 0,
-                first: 0,
-                last: 47,
-            })?;
+            fleet.add(outage(0, 0, 47))?;
         }
-        assert_eq!(rt;
-            said(fleet.add(Outage {
-                unit: 9,
-                first: 3,
-                last: 2,
-            })),
-            (13, 0)
-        );
+        assert_eq!(rt; said(fleet.add(outage(9, 3, 2))), Err((13, 0)));
         Ok(())
     }
 
@@ -252,8 +199,7 @@ mod tests {
         let mut out = [OFF; 48];
         assert_eq!(rt; best_gain(&fleet, 0, &row, &mut slots)?, 500_000_000_000);
         first_best(&fleet, 0, &row, &mut slots, &mut out)?;
-        assert_eq!(rt; out[47].state, 79);
-        assert_eq!(rt; out[47].output, 500);
+        assert_eq!(rt; out[47], entry(79, 500));
         Ok(())
     }
 
@@ -261,26 +207,23 @@ mod tests {
     fn rows_that_are_declined(rt: HostRuntime) -> Result<(), Fail> {
         assert_eq!(rt;
             said(prices(1000, &[1_000_000_000, -1_000_000_000])),
-            (0, 0)
+            Ok(())
         );
         assert_eq!(rt;
             said(prices(1, &[0, 1_000_000_001, -1_000_000_001])),
-            (23, 1)
+            Err((23, 1))
         );
-        assert_eq!(rt; said(prices(0, &[0, 0])), (23, 2));
-        assert_eq!(rt; said(prices(1001, &[0, 0])), (23, 2));
-        assert_eq!(rt; said(prices(1, &[])), (12, 0));
-        let Some(day) = Periods::new(2) else {
-            assert!(rt; false);
-            return Ok(());
-        };
+        assert_eq!(rt; said(prices(0, &[0, 0])), Err((23, 2)));
+        assert_eq!(rt; said(prices(1001, &[0, 0])), Err((23, 2)));
+        assert_eq!(rt; said(prices(1, &[])), Err((12, 0)));
+        let day = Periods::new(2).expect(&rt, "a day of two periods");
         assert_eq!(rt;
             said(PriceRow::new(day, 0, &[0, 0, 2_000_000_000])),
-            (22, 0)
+            Err((22, 0))
         );
-        assert_eq!(rt; said(NeedRow::new(day, &[32_000, -32_000])), (0, 0));
-        assert_eq!(rt; said(NeedRow::new(day, &[32_000, -32_001])), (23, 1));
-        assert_eq!(rt; said(NeedRow::new(day, &[0])), (22, 0));
+        assert_eq!(rt; said(NeedRow::new(day, &[32_000, -32_000])), Ok(()));
+        assert_eq!(rt; said(NeedRow::new(day, &[32_000, -32_001])), Err((23, 1)));
+        assert_eq!(rt; said(NeedRow::new(day, &[0])), Err((22, 0)));
         Ok(())
     }
 }

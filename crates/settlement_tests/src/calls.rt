@@ -1,12 +1,13 @@
 // Calls as tables of data, each with what it should say. Each decline is followed by a look that nothing changed.
 use crate::day::{Day, schedule};
-use crate::said;
+use decline_numbers::{Said, said};
 use fleet::{Entry, FewerLots, Gain, MoreLots, SLOTS};
 use std::process::Abort;
 use std::test::*;
 use terms::Decline;
 
-// Each with its arguments; the lengths of what it lends, tables and buffers, come last.
+// Each with its arguments; the lengths of what it lends, tables and buffers, come last. No request of `requests`: it
+// takes lots in place of entries, and so fits on a row of a table.
 #[derive(Clone, Copy)]
 pub(crate) enum Call<'a> {
     // The wanted lots.
@@ -25,19 +26,9 @@ pub(crate) enum Call<'a> {
     Judge(usize),
 }
 
-// The number and place of a decline.
-pub(crate) type Said = (u32, usize);
-
-pub(crate) const OK: Said = (0, 0);
-
 // Whether a table holds no scores.
 fn is_free<S: Copy>(table: &[Option<S>]) -> bool {
-    for slot in table {
-        if slot.is_some() {
-            return false;
-        }
-    }
-    true
+    table.iter().all(|slot| slot.is_none())
 }
 
 // An entry that no schedule here has.
@@ -47,19 +38,15 @@ pub(crate) const MARK: Entry = Entry {
 };
 
 fn is_marked(out: &[Entry]) -> bool {
-    for step in out {
-        if step.state != 9 || step.output != 99 {
-            return false;
-        }
-    }
-    true
+    out.iter().all(|step| *step == MARK)
 }
 
 // A table may be written into where there is an answer, and where there is no schedule.
 fn may_write(says: Said) -> bool {
-    says.0 == 0 || says.0 == 32
+    matches!(says, Ok(()) | Err((32, _)))
 }
 
+// The calls that are lent tables have a function each: they take other buffers, and other things hold after them.
 impl Day {
     fn run_in(
         &mut self,
@@ -95,7 +82,7 @@ impl Day {
     ) -> Result<Said, Fail> {
         let says = said(self.docket.show(unit, table, out));
         assert!(rt; may_write(says) || is_free(table));
-        assert!(rt; says.0 == 0 || is_marked(out));
+        assert!(rt; says.is_ok() || is_marked(out));
         Ok(says)
     }
 
@@ -135,11 +122,12 @@ impl Day {
         let mut pays = [7; 3];
         assert!(rt; room <= 3);
         let says = said(self.docket.judge(&mut pays[..room]));
-        assert!(rt; says.0 == 0 || pays == [7; 3]);
+        assert!(rt; says.is_ok() || pays == [7; 3]);
         Ok(says)
     }
 
     fn ask(&mut self, rt: &impl Abort, call: Call) -> Result<Said, Fail> {
+        // The calls are rows of constant tables, so each is a case and no closure.
         match call {
             Call::Need(wanted) => Ok(said(self.docket.need(wanted))),
             Call::Price(over, numerators) => Ok(said(self.docket.price(over, numerators))),
@@ -159,7 +147,7 @@ impl Day {
     fn says_at(&mut self, rt: &impl Abort, row: usize, call: Call, says: Said) -> Result<(), Fail> {
         let before = self.judge(rt)?;
         assert_eq!(rt; self.ask(rt, call)?, says, "row {row}");
-        if says.0 == 0 {
+        if says.is_ok() {
             return Ok(());
         }
         self.judges(rt, before)
@@ -170,9 +158,8 @@ impl Day {
     }
 
     pub(crate) fn says_all(&mut self, rt: &impl Abort, calls: &[(Call, Said)]) -> Result<(), Fail> {
-        for row in 0..calls.len() {
-            let (call, says) = calls[row];
-            self.says_at(rt, row, call, says)?;
+        for (row, (call, says)) in calls.iter().enumerate() {
+            self.says_at(rt, row, *call, *says)?;
         }
         Ok(())
     }

@@ -2,9 +2,9 @@
 ghost use Rattle.settlement_tests.specs.HomingUnits.{homing_meaning};
 ghost use Rattle.settlement_tests.specs.HomingSound.{homing_sound};
 
-use crate::said;
+use decline_numbers::said;
 use fleet::{Entry, Fleet, Range, SLOTS};
-use settlement::{Docket, Unopened};
+use settlement::Docket;
 use std::process::Abort;
 use std::test::*;
 use terms::Decline;
@@ -31,11 +31,8 @@ impl Fleet for Homing {
     }
 
     fn arc(&self, unit: usize, period: usize, from: usize, to: usize) -> Option<Range> {
-        if unit == 0 && period < 48 && from < 2 && to < 2 {
-            Some(Range { lo: 0, hi: 9 })
-        } else {
-            None
-        }
+        let exists = unit == 0 && period < 48 && from < 2 && to < 2;
+        exists.then_some(Range { lo: 0, hi: 9 })
     }
 
     fn cost(&self, unit: usize, period: usize, from: usize, to: usize, output: i32) -> i32 {
@@ -68,12 +65,12 @@ fn ends_away(rt: &impl Abort, docket: &mut Docket<Homing>) -> Result<(), Fail> {
     let mut pays = [7];
     docket.need(&[0, 0])?;
     docket.price(1, &[1, 1])?;
-    assert_eq!(rt; said(docket.run(0, &[HOME, AWAY], &mut [])), (27, 2));
-    assert_eq!(rt; said(docket.run(0, &[HOME, FAR], &mut [])), (27, 1));
-    assert_eq!(rt; said(docket.mix(0, 0, &[AWAY, AWAY])), (27, 2));
-    assert_eq!(rt; said(docket.judge(&mut pays)), (41, 0));
+    assert_eq!(rt; said(docket.run(0, &[HOME, AWAY], &mut [])), Err((27, 2)));
+    assert_eq!(rt; said(docket.run(0, &[HOME, FAR], &mut [])), Err((27, 1)));
+    assert_eq!(rt; said(docket.mix(0, 0, &[AWAY, AWAY])), Err((27, 2)));
+    assert_eq!(rt; said(docket.judge(&mut pays)), Err((41, 0)));
     docket.run(0, &[AWAY, HOME], &mut table)?;
-    assert_eq!(rt; said(docket.mix(0, 1, &[AWAY, AWAY])), (27, 2));
+    assert_eq!(rt; said(docket.mix(0, 1, &[AWAY, AWAY])), Err((27, 2)));
     docket.mix(0, 1, &[AWAY, HOME])?;
     let judgement = docket.judge(&mut pays)?;
     assert_eq!(rt; (judgement.uplift, judgement.gap), (18, 18));
@@ -82,16 +79,6 @@ fn ends_away(rt: &impl Abort, docket: &mut Docket<Homing>) -> Result<(), Fail> {
 
 #[test]
 fn home_at_the_end(rt: HostRuntime) -> Result<(), Fail> {
-    match Docket::open(Homing, 2, 1) {
-        Ok(docket) => {
-            let mut docket = docket;
-            let answer = ends_away(&rt, &mut docket);
-            let _ = docket.close();
-            answer
-        }
-        Err(unopened) => {
-            let Unopened { fleet: _, decline } = unopened;
-            Err(Fail::from(decline))
-        }
-    }
+    let mut docket = Docket::open(Homing, 2, 1).map_err(|unopened| unopened.decline)?;
+    ends_away(&rt, &mut docket)
 }

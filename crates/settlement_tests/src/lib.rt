@@ -13,13 +13,3 @@ mod homing;
 mod opening;
 #[cfg(test)]
 mod worked;
-
-use terms::Decline;
-
-// The number and place of a decline, or 0 and 0 where there is none.
-fn said<T: Drop>(answer: Result<T, Decline>) -> (u32, usize) {
-    match answer {
-        Ok(_) => (0, 0),
-        Err(decline) => (decline.cause.number(), decline.place),
-    }
-}

@@ -6,7 +6,7 @@ mod sample;
 use anyhow::anyhow;
 use fleet::{Entry, SLOTS};
 use requests::{Desk, Settled, settle};
-use settlement::{Judgement, Verdict};
+use settlement::Judgement;
 
 fn print_pays(rt: &HostRuntime, pays: &[i64]) -> anyhow::Result<()> {
     for (unit, pay) in pays.iter().enumerate() {
@@ -15,33 +15,36 @@ fn print_pays(rt: &HostRuntime, pays: &[i64]) -> anyhow::Result<()> {
     Ok(())
 }
 
+// A line of this program's output, and no type's text.
 fn print_verdict(rt: &HostRuntime, judgement: Judgement) -> anyhow::Result<()> {
-    let word = match judgement.verdict {
-        Verdict::Least => "least",
-        Verdict::Within => "within",
-    };
-    let uplift = judgement.uplift;
-    let over = judgement.over;
-    let gap = judgement.gap;
-    let weight = judgement.weight;
-    println!(rt; "(verdict {word} (uplift {uplift}) (over {over}) (gap {gap}) (weight {weight}))")?;
+    let Judgement {
+        verdict,
+        uplift,
+        over,
+        gap,
+        weight,
+    } = judgement;
+    println!(rt;
+        "(verdict {verdict} (uplift {uplift}) (over {over}) (gap {gap}) (weight {weight}))"
+    )?;
     Ok(())
 }
 
-// The sample's verdict, with the pays of its two units.
-fn settle_sample(rt: &HostRuntime, pays: &mut [i64; 2]) -> anyhow::Result<Judgement> {
-    let fleet = sample::fleet(rt.alloc())?;
+// The pays of the sample's two units, and the verdict.
+fn settle_sample(rt: &HostRuntime) -> anyhow::Result<([i64; 2], Judgement)> {
+    let fleet = worked_units::fleet(rt.alloc())?;
     let mut gains = [None; SLOTS];
     let mut schedule = [Entry {
         state: 0,
         output: 0,
     }; 1];
+    let mut pays = [0; 2];
     let desk = Desk {
         gains: &mut gains,
         fewer: &mut [],
         more: &mut [],
         schedule: &mut schedule,
-        pays,
+        pays: &mut pays,
     };
     let mut answers = [None; 7];
     let Settled { fleet: _, judged } = settle(
@@ -52,19 +55,12 @@ fn settle_sample(rt: &HostRuntime, pays: &mut [i64; 2]) -> anyhow::Result<Judgem
         desk,
         &mut answers,
     );
-    match judged {
-        Ok(judgement) => Ok(judgement),
-        Err(_) => Err(anyhow!("the sample is declined")),
-    }
-}
-
-fn run(rt: &HostRuntime) -> anyhow::Result<()> {
-    let mut pays = [0; 2];
-    let judgement = settle_sample(rt, &mut pays)?;
-    print_pays(rt, &pays)?;
-    print_verdict(rt, judgement)
+    let judgement = judged.map_err(|_| anyhow!("the sample is declined"))?;
+    Ok((pays, judgement))
 }
 
 fn main(rt: HostRuntime) -> anyhow::Result<()> {
-    run(&rt)
+    let (pays, judgement) = settle_sample(&rt)?;
+    print_pays(&rt, &pays)?;
+    print_verdict(&rt, judgement)
 }
