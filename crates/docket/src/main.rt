@@ -1,33 +1,66 @@
-// The settlement program. For now it settles a built-in day.
+// The settlement program. For now it settles a built-in day, from opening to verdict.
 #![tactic(auto)]
 
-mod pays;
 mod sample;
 
 use anyhow::anyhow;
-use fleet::SLOTS;
-use pays::{Pay, Settled, settle};
-use worked_units::{EIGHT_LOTS, FOUR_LOTS};
+use fleet::{Entry, SLOTS};
+use requests::{Desk, Settled, settle};
+use settlement::Judgement;
 
-// A line of this program's output, and no type's text.
-fn print_pay(rt: &HostRuntime, unit: usize, due: Pay) -> anyhow::Result<()> {
-    let Pay { best, gain, pay } = due;
-    println!(rt; "unit {unit}: best gain {best}, its run gains {gain}, pay {pay}")?;
+fn print_pays(rt: &HostRuntime, pays: &[i64]) -> anyhow::Result<()> {
+    for (unit, pay) in pays.iter().enumerate() {
+        println!(rt; "(pay {unit} {pay})")?;
+    }
     Ok(())
 }
 
-fn main(rt: HostRuntime) -> anyhow::Result<()> {
-    let fleet = worked_units::fleet(rt.alloc())?;
-    let row = sample::prices().ok_or_else(|| anyhow!("the sample's prices are declined"))?;
-    let mut table = [None; SLOTS];
-    let answer = settle(&fleet, &row, &EIGHT_LOTS, &FOUR_LOTS, &mut table);
-    let Settled {
-        first,
-        second,
+// A line of this program's output, and no type's text.
+fn print_verdict(rt: &HostRuntime, judgement: Judgement) -> anyhow::Result<()> {
+    let Judgement {
+        verdict,
         uplift,
-    } = answer.map_err(|_| anyhow!("the sample is declined"))?;
-    print_pay(&rt, 0, first)?;
-    print_pay(&rt, 1, second)?;
-    println!(rt; "uplift {uplift}")?;
+        over,
+        gap,
+        weight,
+    } = judgement;
+    println!(rt;
+        "(verdict {verdict} (uplift {uplift}) (over {over}) (gap {gap}) (weight {weight}))"
+    )?;
     Ok(())
+}
+
+// The pays of the sample's two units, and the verdict.
+fn settle_sample(rt: &HostRuntime) -> anyhow::Result<([i64; 2], Judgement)> {
+    let fleet = worked_units::fleet(rt.alloc())?;
+    let mut gains = [None; SLOTS];
+    let mut schedule = [Entry {
+        state: 0,
+        output: 0,
+    }; 1];
+    let mut pays = [0; 2];
+    let desk = Desk {
+        gains: &mut gains,
+        fewer: &mut [],
+        more: &mut [],
+        schedule: &mut schedule,
+        pays: &mut pays,
+    };
+    let mut answers = [None; 7];
+    let Settled { fleet: _, judged } = settle(
+        fleet,
+        sample::PERIODS,
+        sample::WEIGHT,
+        &sample::requests(),
+        desk,
+        &mut answers,
+    );
+    let judgement = judged.map_err(|_| anyhow!("the sample is declined"))?;
+    Ok((pays, judgement))
+}
+
+fn main(rt: HostRuntime) -> anyhow::Result<()> {
+    let (pays, judgement) = settle_sample(&rt)?;
+    print_pays(&rt, &pays)?;
+    print_verdict(&rt, judgement)
 }
