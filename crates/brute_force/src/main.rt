@@ -3,12 +3,11 @@
 
 ghost use Rattle.std.specs.Prelude.{◌<◌, max};
 
-use fleet::{
-    Entry, Fleet, Periods, PriceRow, SLOTS, best_gain, check_schedule, first_best, supply,
-};
+use fleet::{Fleet, Periods, PriceRow, SLOTS, best_gain, check_schedule, first_best, supply};
 use fleet_kinds::{ArcRow, ArcTable, Outage, Outages};
 use std::alloc::{AllocError, Global};
 use std::cmp::Ordering;
+use terms::Entry;
 
 // Three states and the outputs -2 to 3, in reading order.
 fn choices(heap: Global) -> Result<Vec<Entry>, AllocError> {

@@ -4,9 +4,10 @@
 mod sample;
 
 use anyhow::anyhow;
-use fleet::{Entry, SLOTS};
+use fleet::SLOTS;
 use requests::{Desk, Settled, settle};
 use settlement::Judgement;
+use terms::Entry;
 
 fn print_pays(rt: &HostRuntime, pays: &[i64]) -> anyhow::Result<()> {
     for (unit, pay) in pays.iter().enumerate() {

@@ -1,6 +1,7 @@
 // The built-in day: one period, the two worked units, a price of 6 cents a lot, and the evidence that it is least.
-use fleet::{Entry, SLOTS};
+use fleet::SLOTS;
 use requests::Request;
+use terms::Entry;
 use worked_units::{EIGHT_LOTS, FOUR_LOTS};
 
 pub const PERIODS: usize = 1;

@@ -7,7 +7,7 @@ use Rattle.terms.specs.Numbers.{Near}
 use Rattle.terms.specs.Declines.{Says}
 use Rattle.terms.specs.declared.decline.Decline.{Decline}
 use Rattle.terms.specs.declared.decline.Layer.TheVariants.{Docket}
-use Rattle.fleet.specs.declared.records.Entry.{Entry}
+use Rattle.terms.specs.declared.entry.Entry.{Entry}
 use Rattle.fleet.specs.Units.{UnitModel, SoundUnit}
 use Rattle.fleet.specs.Schedules.{Prices, Goes, AllowedFrom, Allowed, FirstBadFrom, FirstBad, cost_from, cost_of, gain_from, gain_of}
 use Rattle.fleet.specs.Gains.{entry_gain}

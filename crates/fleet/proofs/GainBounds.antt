@@ -2,7 +2,7 @@
 use Rattle.std.proofs.Common.{ℕ, ◌+◌, ◌*◌, ◌≤◌, List, [], ◌∷◌, length, ℤ, subst, arith}
 use Rattle.terms.specs.Numbers.{Near}
 use Rattle.terms.proofs.Bounds.{near_more}
-use Rattle.fleet.specs.declared.records.Entry.{Entry}
+use Rattle.terms.specs.declared.entry.Entry.{Entry}
 use Rattle.fleet.specs.Units.{UnitModel, SoundUnit}
 use Rattle.fleet.specs.Schedules.{Prices, AllowedFrom, Allowed, gain_of}
 use Rattle.fleet.specs.Gains.{BestGain}

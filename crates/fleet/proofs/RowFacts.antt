@@ -10,7 +10,7 @@ use Rattle.std.specs.List.{prefix_len, position, position_or_len}
 use Rattle.terms.specs.Numbers.{Near, near}
 use Rattle.terms.proofs.Ints.{mul_addℤ}
 use Rattle.terms.proofs.Bounds.{near_test, near_zero, near_mul, near_sub, near_pos}
-use Rattle.fleet.specs.declared.records.Entry.{Entry}
+use Rattle.terms.specs.declared.entry.Entry.{Entry}
 use Rattle.fleet.specs.declared.rows.Row.{Row}
 use Rattle.fleet.specs.declared.rows.PriceRow.{PriceRow}
 use Rattle.fleet.specs.Units.{UnitModel}

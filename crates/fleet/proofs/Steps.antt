@@ -1,7 +1,7 @@
 -- One period of the search: over the arcs, and from one period to the one before. Assumes nothing.
 use Rattle.std.proofs.Common.{◌≡◌, ℕ, suc, ◌+◌, ◌<◌, ◌≤◌, true, false, ◌⊎◌, List, [], ◌∷◌, length, ℤ, Some, None, Option, sym, refl, ap, ◌∙◌, subst, inl, inr, ⊎_elim, arith}
 use Rattle.std.proofs.lemmas.Bool.{cases_lt, both_ways}
-use Rattle.fleet.specs.declared.records.Entry.{Entry}
+use Rattle.terms.specs.declared.entry.Entry.{Entry}
 use Rattle.fleet.specs.Units.{UnitModel, SoundUnit}
 use Rattle.fleet.specs.Schedules.{Prices, AllowedFrom}
 use Rattle.fleet.specs.Scores.{Scale, Lawful}

@@ -3,7 +3,7 @@ use Rattle.std.proofs.Common.{◌≡◌, ℕ, ◌*◌, Bool, true, false, List, 
 use Rattle.std.proofs.lemmas.Int.{ints}
 use Rattle.terms.specs.Numbers.{Near}
 use Rattle.terms.proofs.Ints.{both_le}
-use Rattle.fleet.specs.declared.records.Entry.{Entry}
+use Rattle.terms.specs.declared.entry.Entry.{Entry}
 use Rattle.fleet.specs.declared.rows.PriceRow.{PriceRow}
 use Rattle.fleet.specs.declared.scores.ByLots.{ByLots}
 use Rattle.fleet.specs.Units.{UnitModel, SoundUnit}

@@ -5,7 +5,7 @@ use Rattle.terms.specs.Declines.{Says}
 use Rattle.terms.specs.declared.decline.Decline.{Decline}
 use Rattle.terms.specs.declared.decline.Layer.TheVariants.{Docket}
 use Rattle.terms.proofs.Ints.{both_le}
-use Rattle.fleet.specs.declared.records.Entry.{Entry}
+use Rattle.terms.specs.declared.entry.Entry.{Entry}
 use Rattle.fleet.specs.Units.{UnitModel}
 use Rattle.fleet.specs.Schedules.{Prices, Schedule, NoSchedule, gain_from, lots_of}
 use Rattle.fleet.specs.Gains.{Gains, BestGain, entry_gain}

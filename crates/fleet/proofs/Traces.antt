@@ -1,7 +1,7 @@
 -- The first of the best ways, entry by entry. Assumes nothing.
 use Rattle.std.proofs.Common.{◌≡◌, ℕ, ◌+◌, ◌<◌, true, List, [], ◌∷◌, ◌++◌, length, take, set, Some, sym, refl, ap, ◌∙◌, subst, ⊎_elim, arith}
 use Rattle.std.proofs.lemmas.List.{take_more_set, append_assoc, append-nil}
-use Rattle.fleet.specs.declared.records.Entry.{Entry}
+use Rattle.terms.specs.declared.entry.Entry.{Entry}
 use Rattle.fleet.specs.Scores.{Scale, Lawful}
 use Rattle.fleet.specs.Units.{UnitModel, SoundUnit}
 use Rattle.fleet.specs.Schedules.{Prices, AllowedFrom, Precedes}

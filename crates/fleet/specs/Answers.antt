@@ -3,7 +3,7 @@ use Rattle.std.specs.Prelude.{◌≡◌, ℕ, ◌≤◌, ◌⊎◌, List, length
 use Rattle.terms.specs.Declines.{Says}
 use Rattle.terms.specs.declared.decline.Decline.{Decline}
 use Rattle.terms.specs.declared.decline.Layer.TheVariants.{Docket}
-use Rattle.fleet.specs.declared.records.Entry.{Entry}
+use Rattle.terms.specs.declared.entry.Entry.{Entry}
 use Rattle.fleet.specs.declared.schedules.Account.{Account}
 use Rattle.fleet.specs.declared.rows.PriceRow.{PriceRow}
 use Rattle.fleet.specs.Units.{UnitModel, Meaning}

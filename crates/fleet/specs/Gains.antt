@@ -1,7 +1,7 @@
 -- The best gain, supply and the first best schedule: relations over all allowed schedules. Assumes nothing.
 use Rattle.std.specs.Prelude.{◌≡◌, ℕ, zero, suc, ◌+◌, Bool, true, false, cond, List, ℤ, pos, ◌+ℤ◌, ◌-ℤ◌, ◌*ℤ◌, ◌≤ℤ◌, Some, None, Option}
 use Rattle.std.specs.Int.{int_max}
-use Rattle.fleet.specs.declared.records.Entry.{Entry}
+use Rattle.terms.specs.declared.entry.Entry.{Entry}
 use Rattle.fleet.specs.Units.{UnitModel, SoundUnit, holds}
 use Rattle.fleet.specs.Schedules.{Prices, Schedule, NoSchedule, Precedes, gain_of, lots_of, numerator_at}
 

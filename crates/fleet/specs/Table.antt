@@ -1,6 +1,6 @@
 -- What the search's work table holds on the way: the best to go from each state of each period. Assumes nothing.
 use Rattle.std.specs.Prelude.{◌≡◌, ℕ, ◌+◌, ◌*◌, ◌<◌, ◌≤◌, true, cond, List, [], ◌∷◌, length, ℤ, ◌<ℤ◌, Some, None, Option, slice_index_or}
-use Rattle.fleet.specs.declared.records.Entry.{Entry}
+use Rattle.terms.specs.declared.entry.Entry.{Entry}
 use Rattle.fleet.specs.declared.records.Range.{Range}
 use Rattle.fleet.specs.Units.{UnitModel, holds}
 use Rattle.fleet.specs.Schedules.{Prices, AllowedFrom, Precedes}

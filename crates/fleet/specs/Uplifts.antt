@@ -1,7 +1,7 @@
 -- Pay and uplift at every price row. Assumes nothing.
 use Rattle.std.specs.Prelude.{ℕ, List, ℤ, pos, ◌-ℤ◌, Some, None, Option}
 use Rattle.terms.specs.Sums.{sum_to}
-use Rattle.fleet.specs.declared.records.Entry.{Entry}
+use Rattle.terms.specs.declared.entry.Entry.{Entry}
 use Rattle.fleet.specs.Units.{UnitModel, Meaning}
 use Rattle.fleet.specs.Schedules.{Prices, gain_of}
 use Rattle.fleet.specs.Gains.{best_gain}

@@ -6,11 +6,10 @@ ghost use Rattle.fleet.specs.Gains.{BestGainLaw, SupplyLaw, FirstLaw};
 ghost use Rattle.fleet.specs.Answers.{Room, Free, BestGainAnswer, SupplyAnswer, FirstBestAnswer};
 
 use crate::fleets::Fleet;
-use crate::records::Entry;
 use crate::rows::PriceRow;
 use crate::scores::{FewerLots, Gain, MoreLots};
 use crate::search::{SLOTS, UnitDay};
-use terms::{Cause, Decline};
+use terms::{Cause, Decline, Entry};
 
 // The most that any allowed schedule gains. Declined with 30 where the table is too short, then 32 where no schedule
 // is allowed.

@@ -13,7 +13,7 @@ mod search;
 pub use answers::{best_gain, first_best, supply};
 pub use fleets::Fleet;
 pub use periods::Periods;
-pub use records::{Entry, Range};
+pub use records::Range;
 pub use rows::{NeedRow, PriceRow};
 pub use schedules::{Account, check_schedule};
 pub use scores::{ByLots, FewerLots, Gain, MoreLots};

@@ -1,4 +1,4 @@
-// The plain records of arcs and schedules.
+// The plain record of an arc.
 ghost use Rattle.std.specs.Prelude.{◌≡◌};
 ghost use Rattle.fleet.specs.Units.{among};
 
@@ -17,11 +17,4 @@ impl Range {
     {
         (self.lo..=self.hi).contains(&output)
     }
-}
-
-// One period of a schedule: the state that the unit goes into, and its output.
-#[derive(Clone, Copy, PartialEq, Eq, Debug)]
-pub struct Entry {
-    pub state: usize,
-    pub output: i32,
 }

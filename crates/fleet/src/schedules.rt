@@ -5,9 +5,8 @@ ghost use Rattle.fleet.specs.Rows.{prices_of};
 ghost use Rattle.fleet.specs.Answers.{Checked};
 
 use crate::fleets::Fleet;
-use crate::records::Entry;
 use crate::rows::PriceRow;
-use terms::{Cause, Decline};
+use terms::{Cause, Decline, Entry};
 
 // What a schedule comes to: its cost in cents, its gain in cents over the row's denominator.
 #[derive(Clone, Copy, PartialEq, Eq, Debug)]

@@ -8,11 +8,11 @@ ghost use Rattle.fleet.specs.Answers.{Room, Free, Searched};
 ghost use Rattle.fleet.specs.Table.{Best, better_of, worth, Added, ToGo, Via, BestSlots, BestTable, Step, FirstWay};
 
 use crate::fleets::Fleet;
-use crate::records::{Entry, Range};
+use crate::records::Range;
 use crate::rows::PriceRow;
 use crate::schedules::gain_of;
 use crate::scores::Score;
-use terms::{Cause, Decline};
+use terms::{Cause, Decline, Entry};
 
 // The slots of a period in a work table, one for each state that a unit can have.
 const STATES: usize = 80;

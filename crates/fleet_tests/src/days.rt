@@ -3,13 +3,13 @@
 mod tests {
     use decline_numbers::said;
     use fleet::{
-        Entry, FewerLots, Fleet, Gain, MoreLots, NeedRow, Periods, PriceRow, SLOTS, best_gain,
+        FewerLots, Fleet, Gain, MoreLots, NeedRow, Periods, PriceRow, SLOTS, best_gain,
         check_schedule, first_best, supply,
     };
     use fleet_kinds::{ArcRow, ArcTable, Outage, Outages};
     use std::alloc::{AllocError, Global};
     use std::test::Fail;
-    use terms::{Cause, Decline};
+    use terms::{Cause, Decline, Entry};
     use worked_units::{EIGHT_LOTS, FOUR_LOTS, ROWS};
 
     fn arc(

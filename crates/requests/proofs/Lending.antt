@@ -3,7 +3,7 @@ use Rattle.std.proofs.Common.{MatchResult, IsOkAnd, Ok, Err, ◌≡◌, ℕ, Lis
 use Rattle.std.proofs.lemmas.List.{length-take-le}
 use Rattle.std.proofs.Math.Nat.{min-le_right}
 use Rattle.terms.specs.declared.decline.Decline.{Decline}
-use Rattle.fleet.specs.declared.records.Entry.{Entry}
+use Rattle.terms.specs.declared.entry.Entry.{Entry}
 use Rattle.fleet.specs.declared.scores.Gain.{Gain}
 use Rattle.fleet.specs.Scores.{FewerLots, MoreLots}
 use Rattle.fleet.specs.Units.{Meaning}

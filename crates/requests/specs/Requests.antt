@@ -1,7 +1,7 @@
 -- Requests: which call each makes, and what it answers and leaves. Assumes nothing.
 use Rattle.std.specs.Prelude.{◌≡◌, ℕ, min, List, ◌++◌, length, take, drop, ℤ, Ok, Err, Option, Result}
 use Rattle.terms.specs.declared.decline.Decline.{Decline}
-use Rattle.fleet.specs.declared.records.Entry.{Entry}
+use Rattle.terms.specs.declared.entry.Entry.{Entry}
 use Rattle.fleet.specs.declared.scores.Gain.{Gain}
 use Rattle.fleet.specs.Scores.{FewerLots, MoreLots}
 use Rattle.fleet.specs.Units.{Meaning}

@@ -1,5 +1,6 @@
 // What a list of requests works with.
-use fleet::{Entry, FewerLots, Gain, MoreLots};
+use fleet::{FewerLots, Gain, MoreLots};
+use terms::Entry;
 
 // Lent by the caller, since by the project's rules a docket allocates nothing, and shared by all requests: a work
 // table for each score, a buffer for a schedule and one for pays.

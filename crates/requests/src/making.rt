@@ -8,9 +8,9 @@ ghost use Rattle.requests.specs.Settling.{SameLengths};
 
 use crate::desk::Desk;
 use crate::request::{Answer, Request};
-use fleet::{Entry, FewerLots, Fleet, Gain, MoreLots};
+use fleet::{FewerLots, Fleet, Gain, MoreLots};
 use settlement::Docket;
-use terms::Decline;
+use terms::{Decline, Entry};
 
 // A run, with so many slots of the table.
 fn run<F: Fleet>(

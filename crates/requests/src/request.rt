@@ -1,6 +1,6 @@
 // Requests and their answers.
-use fleet::Entry;
 use settlement::Judgement;
+use terms::Entry;
 
 // One of the seven calls with its arguments. The work tables and buffers are shared by the whole list; a request says
 // how much of them it lends.

@@ -11,7 +11,7 @@ use Rattle.terms.specs.Sums.{sum_to, sum_of}
 use Rattle.terms.proofs.Ints.{test_le, mul_addℤ, mul_leℤ, mul_leftℤ, one_mulℤ, zero_factor}
 use Rattle.terms.proofs.Sums.{sum_to_same, sum_of_nonneg, sum_of_zero, sum_of_none}
 use Rattle.terms.proofs.Places.{only_at}
-use Rattle.fleet.specs.declared.records.Entry.{Entry}
+use Rattle.terms.specs.declared.entry.Entry.{Entry}
 use Rattle.fleet.specs.Units.{Meaning, UnitModel, Sound, SoundUnit}
 use Rattle.fleet.specs.Schedules.{Prices, Schedule, numerator_at, revenue_from, cost_of, gain_of}
 use Rattle.fleet.specs.Gains.{BestGain, IsBest, best_gain}

@@ -11,7 +11,7 @@ use Rattle.terms.proofs.Ints.{mul_leℤ}
 use Rattle.terms.proofs.Bounds.{near_zero, near_pos, near_more, near_add, near_sub, near_mul}
 use Rattle.terms.proofs.Sums.{sum_to_same}
 use Rattle.terms.proofs.Places.{only_at, by_place}
-use Rattle.fleet.specs.declared.records.Entry.{Entry}
+use Rattle.terms.specs.declared.entry.Entry.{Entry}
 use Rattle.fleet.specs.Units.{Meaning, UnitModel, Sound, SoundUnit}
 use Rattle.fleet.specs.Schedules.{Prices, Allowed, AllowedFrom, gain_of, lots_of}
 use Rattle.fleet.specs.Rows.{Fault, SoundPrices, row_fault}

@@ -8,7 +8,7 @@ use Rattle.std.proofs.lemmas.Bool.Decides.{nat_tests}
 use Rattle.terms.specs.Sums.{sum_of}
 use Rattle.terms.proofs.Sums.{sum_of_push}
 use Rattle.terms.proofs.Places.{sum_to_one}
-use Rattle.fleet.specs.declared.records.Entry.{Entry}
+use Rattle.terms.specs.declared.entry.Entry.{Entry}
 use Rattle.fleet.specs.declared.rows.NeedRow.{NeedRow}
 use Rattle.fleet.specs.declared.rows.PriceRow.{PriceRow}
 use Rattle.fleet.specs.Units.{Meaning}

@@ -10,7 +10,7 @@ use Rattle.settlement.specs.declared.stages.Stage.{Stage}
 use Rattle.settlement.specs.declared.stages.Stage.TheVariants.{Blank, Needed, Priced}
 use Rattle.settlement.specs.declared.stages.Rows.{Rows}
 use Rattle.settlement.specs.Sheets.{RowsAt}
-use Rattle.fleet.specs.declared.records.Entry.{Entry}
+use Rattle.terms.specs.declared.entry.Entry.{Entry}
 use Rattle.settlement.specs.Evidence.{lots_at}
 
 pub made_yes : {X : Type 0} (o : Option Fault) (Is : X → Type 0) (x : X) → Made o Is (Ok x) → (o ≡ None) × Is x

@@ -7,7 +7,7 @@ use Rattle.terms.specs.Numbers.{Near}
 use Rattle.terms.specs.declared.decline.Decline.{Decline}
 use Rattle.terms.specs.declared.decline.Layer.TheVariants.{Docket as DocketLayer}
 use Rattle.terms.proofs.Bounds.{near_zero}
-use Rattle.fleet.specs.declared.records.Entry.{Entry}
+use Rattle.terms.specs.declared.entry.Entry.{Entry}
 use Rattle.fleet.specs.declared.rows.PriceRow.{PriceRow}
 use Rattle.fleet.specs.Units.{Meaning, UnitModel, SoundUnit, Sound}
 use Rattle.fleet.specs.Schedules.{Prices, Schedule, Allowed, AllowedFrom, gain_of}

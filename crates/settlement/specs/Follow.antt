@@ -1,6 +1,6 @@
 -- How a docket follows the plain ledger. Assumes nothing.
 use Rattle.std.specs.Prelude.{◌≡◌, ℕ, List, [], ◌∷◌, ◌++◌, pos, Some, None, Option, slice_index_or}
-use Rattle.fleet.specs.declared.records.Entry.{Entry}
+use Rattle.terms.specs.declared.entry.Entry.{Entry}
 use Rattle.fleet.specs.Units.{Meaning}
 use Rattle.fleet.specs.Schedules.{gain_of}
 use Rattle.fleet.specs.Rows.{NeedRowOf, PriceRowOf}

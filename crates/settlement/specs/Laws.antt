@@ -1,7 +1,7 @@
 -- What holds of every ledger, and of the schedule check. Assumes nothing.
 use Rattle.std.specs.Prelude.{◌≡◌, ℕ, ◌<◌, ◌≤◌, true, false, List, [], Some, None}
 use Rattle.std.specs.List.{AllByRecursion}
-use Rattle.fleet.specs.declared.records.Entry.{Entry}
+use Rattle.terms.specs.declared.entry.Entry.{Entry}
 use Rattle.fleet.specs.Units.{Meaning, UnitModel}
 use Rattle.fleet.specs.Schedules.{Schedule, Allowed, FirstBad}
 use Rattle.fleet.specs.Rows.{SoundPrices}

@@ -1,6 +1,6 @@
 -- The plain ledger: what a list of calls enters, with no answer in it. Assumes nothing.
 use Rattle.std.specs.Prelude.{ℕ, ◌+◌, ◌-◌, Bool, true, false, cond, not, ◌&&◌, List, [], ◌∷◌, ◌++◌, length, ℤ, Some, None, fold, sum_by, Option, ◌==◌, nat_le, nat_lt}
-use Rattle.fleet.specs.declared.records.Entry.{Entry}
+use Rattle.terms.specs.declared.entry.Entry.{Entry}
 use Rattle.fleet.specs.Units.{Meaning, UnitModel, holds}
 use Rattle.fleet.specs.Schedules.{Prices}
 use Rattle.fleet.specs.Rows.{Fault, need_fault, price_fault}

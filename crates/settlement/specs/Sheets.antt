@@ -13,7 +13,7 @@ use Rattle.settlement.specs.declared.stages.RowCall.{RowCall}
 use Rattle.settlement.specs.declared.stages.RowCall.TheVariants.{Need, Price}
 use Rattle.settlement.specs.declared.standing.Standing.{Standing}
 use Rattle.settlement.specs.declared.sheet.Sheet.{Sheet}
-use Rattle.fleet.specs.declared.records.Entry.{Entry}
+use Rattle.terms.specs.declared.entry.Entry.{Entry}
 use Rattle.settlement.specs.Evidence.{lots_at}
 
 pub record BlankSheet (s : Sheet) : Type 0 where

@@ -1,10 +1,10 @@
 // Calls as tables of data, each with what it should say. Each decline is followed by a look that nothing changed.
 use crate::day::{Day, schedule};
 use decline_numbers::{Said, said};
-use fleet::{Entry, FewerLots, Gain, MoreLots, SLOTS};
+use fleet::{FewerLots, Gain, MoreLots, SLOTS};
 use std::process::Abort;
 use std::test::*;
-use terms::Decline;
+use terms::{Decline, Entry};
 
 // Each with its arguments; the lengths of what it lends, tables and buffers, come last. No request of `requests`: it
 // takes lots in place of entries, and so fits on a row of a table.

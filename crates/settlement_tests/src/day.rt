@@ -1,12 +1,11 @@
 // The worked units, and a docket over them.
 use decline_numbers::numbered;
-use fleet::Entry;
 use fleet_kinds::{ArcRow, ArcTable};
 use settlement::{Docket, Judgement, Verdict};
 use std::alloc::Global;
 use std::process::Abort;
 use std::test::*;
-use terms::Decline;
+use terms::{Decline, Entry};
 use worked_units::ROWS;
 
 // A pay that no judge wrote.

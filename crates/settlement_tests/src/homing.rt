@@ -3,11 +3,11 @@ ghost use Rattle.settlement_tests.specs.HomingUnits.{homing_meaning};
 ghost use Rattle.settlement_tests.specs.HomingSound.{homing_sound};
 
 use decline_numbers::said;
-use fleet::{Entry, Fleet, Range, SLOTS};
+use fleet::{Fleet, Range, SLOTS};
 use settlement::Docket;
 use std::process::Abort;
 use std::test::*;
-use terms::Decline;
+use terms::{Decline, Entry};
 
 #[derive(Clone, Copy)]
 pub(crate) struct Homing;

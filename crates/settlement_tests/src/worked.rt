@@ -2,12 +2,12 @@
 use crate::calls::{Call, MARK};
 use crate::day::{Day, opened, sums};
 use decline_numbers::Said;
-use fleet::{Entry, SLOTS};
+use fleet::SLOTS;
 use settlement::Verdict;
 use std::alloc::Global;
 use std::process::Abort;
 use std::test::*;
-use terms::Decline;
+use terms::{Decline, Entry};
 
 const RUNS: &[(Call<'static>, Said)] = &[
     (Call::Run(0, &[8], SLOTS), Ok(())),

@@ -4,9 +4,9 @@
 ghost use Rattle.std.specs.Prelude.{◌≡◌, IfOk};
 ghost use Rattle.fleet_kinds.specs.ArcTables.{table_meaning};
 
-use fleet::Entry;
 use fleet_kinds::{ArcRow, ArcTable};
 use std::alloc::{AllocError, Global};
+use terms::Entry;
 
 // One period. Unit 0 is off, or on with 1 to 10 lots at 5 cents; unit 1 is off, or on with 4 lots for 16 cents and 2 a
 // lot.

@@ -11,8 +11,8 @@ use crate::docket::Docket;
 use crate::sheet::weighing::verdict_of;
 use crate::stages::Rows;
 use crate::verdicts::Judgement;
-use fleet::{Entry, FewerLots, Fleet, Gain, MoreLots, first_best};
-use terms::{Cause, Decline};
+use fleet::{FewerLots, Fleet, Gain, MoreLots, first_best};
+use terms::{Cause, Decline, Entry};
 
 impl<F: Fleet> Docket<F> {
     // A unit's best gain, with the fewest and the most lots among its schedules of that gain: a tuple, as the project

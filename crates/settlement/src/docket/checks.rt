@@ -3,8 +3,8 @@ ghost use Rattle.settlement.specs.Calls.{UnitPrices, Accounted};
 
 use crate::counted::Counted;
 use crate::docket::Docket;
-use fleet::{Entry, Fleet, PriceRow, check_schedule};
-use terms::{Cause, Decline};
+use fleet::{Fleet, PriceRow, check_schedule};
+use terms::{Cause, Decline, Entry};
 
 impl<F: Fleet> Docket<F> {
     // The prices, for a call of a unit. Declined with 21, then 24.

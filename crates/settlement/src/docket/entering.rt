@@ -8,8 +8,8 @@ ghost use Rattle.settlement.specs.Calls.{Enters, WorkTable};
 
 use crate::docket::Docket;
 use crate::stages::RowCall;
-use fleet::{Entry, Fleet, Gain, best_gain};
-use terms::{Cause, Decline};
+use fleet::{Fleet, Gain, best_gain};
+use terms::{Cause, Decline, Entry};
 
 impl<F: Fleet> Docket<F> {
     // The wanted lots of each period; blank becomes needed. Declined with 21, 22, 23.

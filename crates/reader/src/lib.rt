@@ -1,0 +1,19 @@
+// The four offers, as records that keep their rules.
+#![tactic(auto)]
+
+mod buyer;
+mod checks;
+mod lake;
+mod numbers;
+mod offer;
+mod ramp;
+mod steam;
+mod steps;
+
+pub use buyer::Buyer;
+pub use lake::Lake;
+pub use numbers::{Flow, LakeNumbers, RampNumbers, Rate, Rest, Run, StartCosts, SteamNumbers, Was};
+pub use offer::Offer;
+pub use ramp::Ramp;
+pub use steam::Steam;
+pub use steps::{Step, Steps};

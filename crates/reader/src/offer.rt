@@ -1,0 +1,13 @@
+// An offer of one of the four kinds.
+use crate::buyer::Buyer;
+use crate::lake::Lake;
+use crate::ramp::Ramp;
+use crate::steam::Steam;
+
+#[derive(Clone, Copy, PartialEq, Eq, Debug)]
+pub enum Offer {
+    Steam(Steam),
+    Ramp(Ramp),
+    Lake(Lake),
+    Buyer(Buyer),
+}
