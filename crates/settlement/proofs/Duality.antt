@@ -9,7 +9,7 @@ use Rattle.std.proofs.lemmas.Bool.{cases_Bool}
 use Rattle.std.specs.List.{AllByRecursion}
 use Rattle.terms.specs.Sums.{sum_to, sum_of}
 use Rattle.terms.proofs.Ints.{test_le, mul_addℤ, mul_leℤ, mul_leftℤ, one_mulℤ, zero_factor}
-use Rattle.terms.proofs.Sums.{sum_to_same, sum_of_nonneg, sum_of_zero, sum_of_none}
+use Rattle.terms.proofs.Sums.{sum_to_first, sum_to_same, sum_of_nonneg, sum_of_zero, sum_of_none}
 use Rattle.terms.proofs.Places.{only_at}
 use Rattle.terms.specs.declared.entry.Entry.{Entry}
 use Rattle.fleet.specs.Units.{Meaning, UnitModel, Sound, SoundUnit}
@@ -24,10 +24,6 @@ use Rattle.settlement.proofs.Ledgers.{Kept, no_clash}
 use Rattle.settlement.proofs.Balance.{balance}
 
 -- a gain as a sum over the periods --
-
-sum_to_first : (n : ℕ) (f : ℕ → ℤ) → sum_to (suc n) f ≡ f 0 +ℤ sum_to n (λ i. f (suc i))
-sum_to_first zero f = omega (arith, ints)
-sum_to_first (suc n) f = let r = sum_to_first n f in omega (arith, ints, r)
 
 revenue_is : (r : Prices) (t : ℕ) (es : List Entry) → revenue_from r t es ≡ sum_to (length es) (λ i. numerator_at r (t + i) *ℤ lots_at es i)
 revenue_is r t [] = refl

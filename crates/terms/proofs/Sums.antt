@@ -78,3 +78,7 @@ module _ {X : Type 0} where
   sum_of_zero f (x ∷ xs) (h, k) e =
       let r = sum_of_nonneg f xs k in
       (omega (arith, ints), sum_of_zero f xs k (omega (arith, ints)))
+
+pub sum_to_first : (n : ℕ) (f : ℕ → ℤ) → sum_to (suc n) f ≡ f 0 +ℤ sum_to n (λ i. f (suc i))
+sum_to_first zero f = omega (arith, ints)
+sum_to_first (suc n) f = let r = sum_to_first n f in omega (arith, ints, r)

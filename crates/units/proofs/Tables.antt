@@ -1,0 +1,34 @@
+-- A rule of a table, proved at all of its entries by one test that is computed, one entry after the other. Assumes
+-- nothing.
+use Rattle.std.proofs.Common.{◌≡◌, ℕ, zero, suc, ◌+◌, ◌<◌, Bool, true, false, List, [], ◌∷◌, length, slice_index_or, sym, ◌∙◌, subst, le_of_suc-le-suc, not-suc-le-zero, add-zero, add-suc, suc-add, zero-add, refl, T}
+
+abbrev pub both : Bool → Bool → Bool
+both true b = b
+both false b = false
+
+both_left : (a b : Bool) → T (both a b) → T a
+both_left true b t = tt
+both_left false b t = t
+
+both_right : (a b : Bool) → T (both a b) → T b
+both_right true b t = t
+both_right false b t = absurd t
+
+true_of : (b : Bool) → T b → b ≡ true
+true_of true t = refl
+true_of false t = absurd t
+
+-- the test f passes at each entry of the list and its place, counted from i
+abbrev pub every : (ℕ → ℕ → Bool) → ℕ → List ℕ → Bool
+every f i [] = true
+every f i (x ∷ xs) = both (f i x) (every f (suc i) xs)
+
+from : (f : ℕ → ℕ → Bool) (xs : List ℕ) (i : ℕ) → T (every f i xs) → (k : ℕ) → k < length xs → T (f (i + k) (slice_index_or xs k 0))
+from f [] i t k h = absurd (not-suc-le-zero h)
+from f (x ∷ xs) i t zero h = subst (λ (m : ℕ). T (f m x)) (sym (add-zero i)) (both_left (f i x) (every f (suc i) xs) t)
+from f (x ∷ xs) i t (suc k) h =
+    subst (λ (m : ℕ). T (f m (slice_index_or xs k 0))) (suc-add i k ∙ sym (add-suc i k))
+    (from f xs (suc i) (both_right (f i x) (every f (suc i) xs) t) k (le_of_suc-le-suc h))
+
+pub at : (f : ℕ → ℕ → Bool) (xs : List ℕ) → T (every f 0 xs) → (k : ℕ) → k < length xs → f k (slice_index_or xs k 0) ≡ true
+at f xs t k h = true_of _ (subst (λ (m : ℕ). T (f m (slice_index_or xs k 0))) (zero-add k) (from f xs 0 t k h))

@@ -1,0 +1,19 @@
+-- The rule of buyers, on outputs alone. Assumes nothing.
+use Rattle.std.specs.Prelude.{ℕ, ◌<◌, List, length, ℤ, pos, neg_ℤ, ◌≤ℤ◌, slice_index_or}
+use Rattle.terms.specs.Sums.{sum_to}
+use Rattle.reader.specs.declared.steps.Step.{Step}
+use Rattle.reader.specs.Steps.{lots_in}
+use Rattle.units.specs.Links.{model_of}
+use Rattle.units.specs.BuyerUnits.{taking, buyer_links}
+use Rattle.units.specs.Agree.{Agrees}
+
+-- each period it takes from none to all of its lots
+abbrev pub BuyerObeys : List Step → List ℤ → Type 0
+BuyerObeys ss qs = (t : ℕ) → t < length qs → (neg_ℤ (pos (lots_in ss)) ≤ℤ slice_index_or qs t (pos 0)) × (slice_index_or qs t (pos 0) ≤ℤ pos 0)
+
+-- and each period costs minus their price, filled in order
+abbrev pub buyer_cost : List Step → List ℤ → ℤ
+buyer_cost ss qs = sum_to (length qs) (λ t. taking ss (slice_index_or qs t (pos 0)))
+
+abbrev pub BuyerRule : List Step → Type 0
+BuyerRule ss = Agrees (model_of (buyer_links ss)) (BuyerObeys ss) (buyer_cost ss)

@@ -1,0 +1,12 @@
+pub mod Agree
+pub mod BuyerRules
+pub mod BuyerUnits
+pub mod Fill
+pub mod LakeRules
+pub mod LakeUnits
+pub mod Links
+pub mod Offers
+pub mod RampRules
+pub mod RampUnits
+pub mod SteamRules
+pub mod SteamUnits
