@@ -2,7 +2,7 @@
 ghost use Rattle.std.specs.Prelude.{◌≡◌, true, false, MatchOption};
 ghost use Rattle.reader.specs.Offers.{fair_lake};
 
-use crate::numbers::LakeNumbers;
+use crate::numbers::{Flow, LakeNumbers};
 
 #[derive(Clone, Copy, PartialEq, Eq, Debug)]
 pub struct Lake {
@@ -33,6 +33,21 @@ impl Lake {
             Some(Lake { numbers })
         } else {
             None
+        }
+    }
+}
+
+// A lake that never moves.
+impl Default for Lake {
+    fn default() -> Lake {
+        Lake {
+            numbers: LakeNumbers {
+                full: 1,
+                flow: Flow { fall: 0, rise: 0 },
+                wear: 0,
+                was: 0,
+                end: 0,
+            },
         }
     }
 }

@@ -11,3 +11,10 @@ pub enum Offer {
     Lake(Lake),
     Buyer(Buyer),
 }
+
+// The default fills the places of a list that are not used.
+impl Default for Offer {
+    fn default() -> Offer {
+        Offer::Lake(Lake::default())
+    }
+}

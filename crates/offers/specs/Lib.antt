@@ -1,0 +1,2 @@
+pub mod BookSound
+pub mod Books
