@@ -32,8 +32,8 @@ fn print_verdict(rt: &HostRuntime, judgement: Judgement) -> anyhow::Result<()> {
 }
 
 // The pays of the sample's two units, and the verdict.
-fn settle_sample(rt: &HostRuntime) -> anyhow::Result<([i64; 2], Judgement)> {
-    let fleet = worked_units::fleet(rt.alloc())?;
+fn settle_sample() -> anyhow::Result<([i64; 2], Judgement)> {
+    let book = sample::book().ok_or_else(|| anyhow!("the sample's offers disagree"))?;
     let mut gains = [None; SLOTS];
     let mut schedule = [Entry {
         state: 0,
@@ -49,7 +49,7 @@ fn settle_sample(rt: &HostRuntime) -> anyhow::Result<([i64; 2], Judgement)> {
     };
     let mut answers = [None; 7];
     let Settled { fleet: _, judged } = settle(
-        fleet,
+        book,
         sample::PERIODS,
         sample::WEIGHT,
         &sample::requests(),
@@ -61,7 +61,7 @@ fn settle_sample(rt: &HostRuntime) -> anyhow::Result<([i64; 2], Judgement)> {
 }
 
 fn main(rt: HostRuntime) -> anyhow::Result<()> {
-    let (pays, judgement) = settle_sample(&rt)?;
+    let (pays, judgement) = settle_sample()?;
     print_pays(&rt, &pays)?;
     print_verdict(&rt, judgement)
 }

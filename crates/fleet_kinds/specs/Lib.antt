@@ -1,3 +1,4 @@
 pub mod ArcTables
-pub mod OutageLists
 pub mod Heeded
+pub mod Lending
+pub mod OutageLists

@@ -40,6 +40,9 @@ fn only_zero(range: Option<Range>) -> Option<Range>
 }
 
 impl<F: Fleet> Outages<F> {
+    ghost use Rattle.std.specs.Borrow.{sem};
+    ghost use Rattle.fleet_kinds.specs.Lending.{lends_fleet};
+
     // The fleet without outages.
     pub fn new(fleet: F) -> Outages<F>
         ensures fleet { result.fleet ≡ fleet }
@@ -67,6 +70,15 @@ impl<F: Fleet> Outages<F> {
         }
         self.list.push(outage);
         Ok(())
+    }
+
+    // The fleet below, which may still change. The listed outages stay: each was checked against the units that there
+    // were when it was added.
+    pub fn fleet_mut(&mut self) -> &mut F
+        ensures* writes_back { sem 𝓛 (lends_fleet F.row self.entry result) }
+        ensures value { result.now ≡ self.old.fleet }
+    {
+        &mut self.fleet
     }
 
     fn is_out(&self, unit: usize, period: usize) -> bool
