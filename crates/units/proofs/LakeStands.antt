@@ -23,7 +23,7 @@ at_draw s zero l e = absurd (omega arith)
 at_draw s (suc d) l e = ap (λ x. pos (rise_of x)) (sym e) ∙ ap pos (one_to_one s)
 
 -- minus the draw of a rise moves the level by that rise
-moved_rise : (s : ℕ) → 1 ≤ s → moved (neg_ℤ (pos (drawn s))) ≡ pos s
+pub moved_rise : (s : ℕ) → 1 ≤ s → moved (neg_ℤ (pos (drawn s))) ≡ pos s
 moved_rise s l = at_draw s (drawn s) (draws_something s l) refl
 
 -- what goes out between two levels tells how the level moves

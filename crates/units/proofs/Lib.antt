@@ -1,10 +1,10 @@
 mod BuyerStands
 mod Draws
-mod Fairs
+pub mod Fairs
 mod Fills
-mod Follow
+pub mod Follow
 mod History
-mod LakeStands
+pub mod LakeStands
 mod RampStands
 pub mod Rules
 mod SoundLinks
