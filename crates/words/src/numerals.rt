@@ -1,0 +1,46 @@
+// The number that a word says.
+ghost use Rattle.std.specs.Prelude.{◌≡◌, ◌^◌, ◌<◌, ◌≤◌, length, IfSome};
+ghost use Rattle.words.specs.Numerals.{value_of, natural_of, digits_from};
+
+// The value of a numeral: an optional minus and then one to ten digits, with no needless 0 and no minus before 0.
+pub(crate) fn value_of(word: &[u8]) -> Option<i64>
+    ensures { result ≡ value_of word.now }
+{
+    match word {
+        [b'0'] => Some(0),
+        [b'-', digits @ ..] => match natural_of(digits) {
+            Some(n) => Some(-(n as i64)),
+            None => None,
+        },
+        digits => match natural_of(digits) {
+            Some(n) => Some(n as i64),
+            None => None,
+        },
+    }
+}
+
+// The value of one to ten digits that do not begin with 0.
+fn natural_of(digits: &[u8]) -> Option<u64>
+    ensures value { result ≡ natural_of digits.now }
+    ensures bound { IfSome result (λ n. n < 10 ^ 10) }
+{
+    match digits {
+        [b'1'..=b'9', rest @ ..] if rest.len() < 10 => digits_value(digits),
+        _ => None,
+    }
+}
+
+fn digits_value(digits: &[u8]) -> Option<u64>
+    requires { length digits.now ≤ 10 }
+    ensures value { result ≡ digits_from 0 digits.now }
+    ensures bound { IfSome result (λ n. n < 10 ^ 10) }
+{
+    let mut n: u64 = 0;
+    for digit in digits {
+        match *digit as char {
+            '0'..='9' => n = n * 10 + u64::from(*digit - b'0'),
+            _ => return None,
+        }
+    }
+    Some(n)
+}

@@ -1,0 +1,83 @@
+// The small readers that every form is made of. Each either finds what it wants and passes it, or declines: with 5 at
+// another word or after the last byte, 6 at a word that may be a numeral there and is none, 7 at a numeral out of range.
+ghost use Rattle.std.specs.Prelude.{◌≡◌, if◌then◌else◌};
+ghost use Rattle.words.specs.Answers.{answer_of};
+ghost use Rattle.words.specs.Grammar.{word as word_read, end as end_read, number as number_read, closes as closes_read, within};
+ghost use Rattle.words.specs.Seen.{state_of};
+
+use crate::line::Words;
+use crate::word::Word;
+use terms::{Cause, Decline};
+
+// The whole numbers from `lo` to `hi`.
+#[derive(Clone, Copy, PartialEq, Eq, Debug)]
+pub struct Range {
+    pub lo: i32,
+    pub hi: i32,
+}
+
+impl Range {
+    // The number, if it lies in the range.
+    fn only(&self, number: i64) -> Option<i32>
+        ensures { result ≡ (if within self.now.lo self.now.hi number then Some number else None) }
+    {
+        if i64::from(self.lo) <= number && number <= i64::from(self.hi) {
+            Some(number as i32)
+        } else {
+            None
+        }
+    }
+}
+
+impl<'a> Words<'a> {
+    // The word `want`.
+    #[tactic(auto, unfolding(crate::specs::Grammar::word))]
+    pub fn expect(&mut self, want: &[u8]) -> Result<(), Decline>
+        ensures { answer_of result self.new ≡ word_read want.now (state_of self.old) }
+    {
+        match self.next() {
+            Some(found) if found.word.text() == want => Ok(()),
+            Some(found) => Err(Cause::UnexpectedWord.at(found.place)),
+            None => Err(Cause::UnexpectedWord.at(self.place_after())),
+        }
+    }
+
+    // The end of the line.
+    #[tactic(auto, unfolding(crate::specs::Grammar::end))]
+    pub fn end(&mut self) -> Result<(), Decline>
+        ensures { answer_of result self.new ≡ end_read (state_of self.old) }
+    {
+        match self.next() {
+            Some(found) => Err(Cause::UnexpectedWord.at(found.place)),
+            None => Ok(()),
+        }
+    }
+
+    // A numeral in a range.
+    #[tactic(auto, unfolding(crate::specs::Grammar::number))]
+    pub fn number(&mut self, range: Range) -> Result<i32, Decline>
+        ensures { answer_of result self.new ≡ number_read range.lo range.hi (state_of self.old) }
+    {
+        let Some(found) = self.next() else {
+            return Err(Cause::UnexpectedWord.at(self.place_after()));
+        };
+        if let Word::Bracket(_) = found.word {
+            return Err(Cause::UnexpectedWord.at(found.place));
+        }
+        let Some(number) = found.word.value() else {
+            return Err(Cause::NotANumeral.at(found.place));
+        };
+        match range.only(number) {
+            Some(number) => Ok(number),
+            None => Err(Cause::NumeralOutOfRange.at(found.place)),
+        }
+    }
+
+    // Whether a closing bracket stands next. Passes nothing.
+    pub fn closes(&self) -> bool
+        ensures { result ≡ closes_read (state_of self.now) }
+    {
+        let mut ahead = *self;
+        ahead.expect(b")").is_ok()
+    }
+}
