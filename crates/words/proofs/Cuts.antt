@@ -1,13 +1,12 @@
 -- The word in front of a line's bytes, and what follows it.
-use Rattle.std.proofs.Common.{◌≡◌, ℕ, zero, suc, ◌+◌, ◌-◌, ◌<◌, ◌≤◌, Bool, true, false, cond, ◌⊎◌, List, [], ◌∷◌, length, take, drop, sym, refl, ap, ◌∙◌, inl, inr, ⊎_elim, arith, add-zero}
+use Rattle.std.proofs.Common.{◌≡◌, ℕ, zero, suc, ◌+◌, ◌-◌, ◌<◌, ◌≤◌, true, false, List, [], ◌∷◌, length, take, drop, sym, refl, ap, ◌∙◌, ⊎_elim, arith, add-zero}
 use Rattle.std.specs.List.{prefix_len}
 use Rattle.std.proofs.lemmas.List.{length-drop, length-take, take_rest}
-use Rattle.std.proofs.lemmas.List.Sums.{prefix_len-le-length}
 use Rattle.std.proofs.lemmas.Bool.{cond-true, cond-false, cases_Bool, both_ways}
 use Rattle.words.specs.declared.classes.Class.{Class}
 use Rattle.words.specs.declared.classes.Class.TheVariants.{Letter, Digit, Minus, Open, Close, Blank, Foreign}
 use Rattle.words.specs.Classes.{class_of, is_blank, is_bracket, is_joined, is_blank_class, is_bracket_class, is_joined_class}
-use Rattle.words.specs.Lines.{Word, goes_on, joined, words_from}
+use Rattle.words.specs.Lines.{Word, joined, words_from}
 use Rattle.words.specs.Lengths.{word_length}
 
 -- a byte that is joined to others is no blank and no bracket, and one that is neither is joined

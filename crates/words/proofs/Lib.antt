@@ -2,3 +2,6 @@ pub mod Scans
 pub mod Signs
 pub mod Cuts
 pub mod Numbers
+pub mod Decimals
+pub mod Readings
+pub mod Laws

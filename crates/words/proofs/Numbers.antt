@@ -2,9 +2,8 @@
 use Rattle.std.proofs.Common.{◌≡◌, ℕ, Bool, true, false, cond, List, ℤ, Some, None, Option, sym, refl, ap, ◌∙◌, arith}
 use Rattle.std.proofs.lemmas.Bool.{cond-true, cond-false}
 use Rattle.std.proofs.lemmas.Option.{same_Some}
-use Rattle.words.specs.Lines.{Word}
 use Rattle.words.specs.Numerals.{value_of}
-use Rattle.words.specs.Grammar.{State, Answer, got, no, Kind, bracket, name, numeral, first, past, kind_of_text, within, number_said, number_at, number_in, number}
+use Rattle.words.specs.Grammar.{State, got, no, first, past, kind_of_text, within, number_said, number_at, number_in, number}
 use Rattle.words.specs.declared.word.Word.{Word as WordParts}
 use Rattle.words.specs.declared.word.Word.TheVariants.{Bracket, Name, Numeral}
 use Rattle.words.specs.Seen.{kind_of}

@@ -1,5 +1,5 @@
 -- How a form is read, word by word. Assumes nothing.
-use Rattle.std.specs.Prelude.{ℕ, zero, suc, Bool, true, false, cond, ◌&&◌, List, [], ◌∷◌, ℤ, pos, nat_abs, Some, None, Option, is_some, int_le}
+use Rattle.std.specs.Prelude.{ℕ, zero, suc, Bool, true, false, cond, ◌&&◌, List, [], ◌∷◌, ℤ, nat_abs, Some, None, Option, is_some, int_le}
 use Rattle.std.specs.Str.{bytes_eq}
 use Rattle.words.specs.Classes.{is_bracket}
 use Rattle.words.specs.Lines.{Word}
@@ -91,17 +91,28 @@ number_in lo hi s (Some x) = number_at lo hi s x.place (kind_of_text x.text) (va
 unfoldable pub number : ℤ → ℤ → Reader ℤ
 number lo hi s = number_in lo hi s (first s)
 
+-- a numeral from lo to hi without its sign, for ranges that are not negative
+abbrev pub magnitude : ℤ → ℤ → Reader ℕ
+magnitude lo hi s = bind (number lo hi s) (λ z. give (nat_abs z))
+
 abbrev pub is_got : {A : Type 0} → Answer A → Bool
 is_got (got a s) = true
 is_got (no n p) = false
 
--- whether a closing bracket stands next
-abbrev pub closes : State → Bool
-closes s = is_got (word (41 ∷ []) s)
+-- whether the word w stands next
+abbrev pub stands : List ℕ → State → Bool
+stands w s = is_got (word w s)
 
--- up to n times r, as long as no closing bracket stands next, and then that bracket; some are read already or none
+abbrev pub open_text : List ℕ
+open_text = 40 ∷ []
+
+abbrev pub close_text : List ℕ
+close_text = 41 ∷ []
+
+-- up to n times r, as long as no closing bracket stands next, and then that bracket; at least once, unless it follows
+-- one that is read
 unfoldable pub up_to : {A : Type 0} → ℕ → Bool → Reader A → Reader (List A)
-up_to zero some r s = bind (word (41 ∷ []) s) (λ _. give [])
-up_to (suc n) some r s =
-    cond (some && closes s) (bind (word (41 ∷ []) s) (λ _. give []))
+up_to zero follows r s = bind (word close_text s) (λ _. give [])
+up_to (suc n) follows r s =
+    cond (follows && stands close_text s) (bind (word close_text s) (λ _. give []))
     (bind (r s) (λ x s₁. bind (up_to n true r s₁) (λ xs. give (x ∷ xs))))

@@ -6,3 +6,4 @@ pub mod Seen
 pub mod Lengths
 pub mod Answers
 pub mod Shapes
+pub mod Laws

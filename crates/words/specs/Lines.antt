@@ -1,5 +1,5 @@
 -- The words of a line, each with its place. Assumes nothing.
-use Rattle.std.specs.Prelude.{ℕ, ◌+◌, Bool, false, cond, List, [], ◌∷◌, Some, None, Option}
+use Rattle.std.specs.Prelude.{ℕ, ◌+◌, Bool, false, cond, List, [], ◌∷◌}
 use Rattle.words.specs.Classes.{is_blank, is_bracket, is_joined}
 
 -- a word's bytes, and the place of the first of them in its line, counted from 1
@@ -24,3 +24,8 @@ words_from p (b ∷ bs) =
     cond (is_blank b) (words_from (p + 1) bs)
     (cond (is_bracket b) (record { text = b ∷ []; place = p } ∷ words_from (p + 1) bs)
     (joined (goes_on bs) p b (words_from (p + 1) bs)))
+
+-- the bytes of each
+abbrev pub texts : List Word → List (List ℕ)
+texts [] = []
+texts (w ∷ ws) = w.text ∷ texts ws

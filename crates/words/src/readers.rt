@@ -2,7 +2,8 @@
 // another word or after the last byte, 6 at a word that may be a numeral there and is none, 7 at a numeral out of range.
 ghost use Rattle.std.specs.Prelude.{◌≡◌, if◌then◌else◌};
 ghost use Rattle.words.specs.Answers.{answer_of};
-ghost use Rattle.words.specs.Grammar.{word as word_read, end as end_read, number as number_read, closes as closes_read, within};
+ghost use Rattle.words.specs.Grammar.{word as word_read, end as end_read, stands, within};
+ghost use Rattle.words.specs.Shapes.{read, natural, whole, both, group};
 ghost use Rattle.words.specs.Seen.{state_of};
 
 use crate::line::Words;
@@ -56,7 +57,7 @@ impl<'a> Words<'a> {
     // A numeral in a range.
     #[tactic(auto, unfolding(crate::specs::Grammar::number))]
     pub fn number(&mut self, range: Range) -> Result<i32, Decline>
-        ensures { answer_of result self.new ≡ number_read range.lo range.hi (state_of self.old) }
+        ensures { answer_of result self.new ≡ read (whole range.lo range.hi) (state_of self.old) }
     {
         let Some(found) = self.next() else {
             return Err(Cause::UnexpectedWord.at(self.place_after()));
@@ -73,11 +74,42 @@ impl<'a> Words<'a> {
         }
     }
 
-    // Whether a closing bracket stands next. Passes nothing.
-    pub fn closes(&self) -> bool
-        ensures { result ≡ closes_read (state_of self.now) }
+    // A numeral in a range of numbers that are not negative.
+    pub fn count(&mut self, range: Range) -> Result<u32, Decline>
+        ensures { answer_of result self.new ≡ read (natural range.lo range.hi) (state_of self.old) }
+    {
+        let number = self.number(range)?;
+        Ok(number.unsigned_abs())
+    }
+
+    // Whether the word `want` stands next. Passes nothing.
+    pub fn stands(&self, want: &[u8]) -> bool
+        ensures { result ≡ stands want.now (state_of self.now) }
     {
         let mut ahead = *self;
-        ahead.expect(b")").is_ok()
+        ahead.expect(want).is_ok()
+    }
+
+    // A group of one number, (KEY N).
+    pub fn one(&mut self, key: &[u8], range: Range) -> Result<u32, Decline>
+        ensures { answer_of result self.new ≡ read (group key.now (natural range.lo range.hi)) (state_of self.old) }
+    {
+        self.expect(b"(")?;
+        self.expect(key)?;
+        let number = self.count(range)?;
+        self.expect(b")")?;
+        Ok(number)
+    }
+
+    // A group of two numbers in one range, (KEY N N).
+    pub fn two(&mut self, key: &[u8], range: Range) -> Result<(u32, u32), Decline>
+        ensures { answer_of result self.new ≡ read (group key.now (both (natural range.lo range.hi) (natural range.lo range.hi))) (state_of self.old) }
+    {
+        self.expect(b"(")?;
+        self.expect(key)?;
+        let first = self.count(range)?;
+        let second = self.count(range)?;
+        self.expect(b")")?;
+        Ok((first, second))
     }
 }

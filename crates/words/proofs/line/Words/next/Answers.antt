@@ -1,4 +1,4 @@
-use Rattle.std.proofs.Common.{◌≡◌, ◌+◌, Some, sym, ap, ◌∙◌}
+use Rattle.std.proofs.Common.{◌+◌, Some, sym, ap, ◌∙◌}
 use Rattle.words.specs.Grammar.{head, tail}
 use Rattle.words.specs.Seen.{seen}
 use Rattle.words.proofs.Cuts.{cut}

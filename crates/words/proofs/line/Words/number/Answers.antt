@@ -1,6 +1,6 @@
-use Rattle.std.proofs.Common.{◌≡◌, sym, ap, ◌∙◌, w32, w64, SFits, rules}
+use Rattle.std.proofs.Common.{sym, ap, ◌∙◌, w32, w64, SFits, rules}
 use Rattle.std.proofs.lemmas.Int.{to_z-of_z}
-use Rattle.words.specs.Grammar.{got, no}
+use Rattle.words.specs.Grammar.{got}
 use Rattle.words.specs.Seen.{state_of}
 use Rattle.words.proofs.Numbers.{number_got, number_no}
 use Rattle.words.proofs.line.Words.number.Goals as goal
