@@ -1,2 +1,3 @@
 pub mod Offers
 pub mod Steps
+pub mod Lists

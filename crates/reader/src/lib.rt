@@ -6,7 +6,9 @@ mod checks;
 mod lake;
 mod numbers;
 mod offer;
+mod parts;
 mod ramp;
+mod ranges;
 mod steam;
 mod steps;
 

@@ -9,7 +9,7 @@ use Rattle.terms.proofs.Ints.{le_test, test_le}
 use Rattle.words.specs.Lines.{texts}
 use Rattle.words.specs.Numerals.{value_of}
 use Rattle.words.specs.Grammar.{State, Answer, got, bind, give, past, word, within, number, stands, up_to, close_text}
-use Rattle.words.specs.Shapes.{Shape, natural, whole, after, ended, both, many, either, put, read, words_of, words_of_each, Fits, EachFits}
+use Rattle.words.specs.Shapes.{Shape, nothing, natural, whole, after, ended, both, many, either, put, read, words_of, words_of_each, Fits, EachFits}
 use Rattle.words.specs.Laws.{opens, TenDigits, Sound, Took, Law}
 use Rattle.words.proofs.Readings.{got_same, chain, join, same_bytes, word_only, word_always, number_only, number_always, stands_only, stands_always, one_word}
 
@@ -49,6 +49,7 @@ closed_number lo hi s t z e =
 
 closed : {A : Type 0} (f : Shape A) → Sound f → opens f ≡ true → (s t : State) (a : A) → read f s ≡ got a t → stands close_text s ≡ false
 unfolding up_to
+closed nothing h o s t a e = absurd (both_ways false refl o)
 closed (natural lo hi) h o s t a e = let c = chain (number lo hi s) (λ z. give (nat_abs z)) a t e in closed_number lo hi s c.state c.value c.this
 closed (whole lo hi) h o s t a e = closed_number lo hi s t a e
 closed (after w f) h o s t a e = let c = chain (word w s) (λ _. read f) a t e in closed_word w o s c.state c.this
@@ -152,6 +153,7 @@ module _ {A : Type 0} (f : Shape A) (l : (s : State) (a : A) (ts : List (List �
       }
 
 always : {A : Type 0} (f : Shape A) → Sound f → (s : State) (a : A) (ts : List (List ℕ)) → Fits f a → texts s.left ≡ words_of f a ++ ts → Reaches (read f s) a ts
+always nothing h s a ts fit e = record { state = s; answer = refl; left = e }
 always (natural lo hi) h s a ts fit e =
     let small : nat_abs (pos a) < 10 ^ 10 = ten_digits lo hi (pos a) h.1 fit.0 fit.1 in
     let n = number_always lo hi s (pos a) ts small (within_from lo hi (pos a) fit.0 fit.1) e in
@@ -220,6 +222,9 @@ magnitude_is : (lo z : ℤ) → pos 0 ≤ℤ lo → lo ≤ℤ z → pos (nat_abs
 magnitude_is lo z g h = omega (arith, ints)
 
 only : {A : Type 0} (f : Shape A) → Sound f → (s t : State) (a : A) → read f s ≡ got a t → Took f s a t
+only nothing h s t a e =
+    let g = got_same tt a s t e in
+    record { fits = tt; words = ap (λ (u : State). texts u.left) g.state; end = ap (λ (u : State). u.end) (sym g.state) }
 only (natural lo hi) h s t a e =
     let c = chain (number lo hi s) (λ z. give (nat_abs z)) a t e in
     let g = got_same (nat_abs c.value) a c.state t c.next in

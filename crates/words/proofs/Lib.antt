@@ -5,3 +5,4 @@ pub mod Numbers
 pub mod Decimals
 pub mod Readings
 pub mod Laws
+pub mod Repeats

@@ -103,6 +103,10 @@ is_got (no n p) = false
 abbrev pub stands : List ℕ → State → Bool
 stands w s = is_got (word w s)
 
+-- whether no word is left
+abbrev pub ends : State → Bool
+ends s = is_got (end s)
+
 abbrev pub open_text : List ℕ
 open_text = 40 ∷ []
 

@@ -4,10 +4,11 @@ use Rattle.std.specs.Prelude.{◌≡◌, ℕ, ◌^◌, ◌<◌, ◌≤◌, Bool,
 use Rattle.std.specs.Str.{bytes_eq}
 use Rattle.words.specs.Lines.{texts}
 use Rattle.words.specs.Grammar.{State, got, close_text}
-use Rattle.words.specs.Shapes.{Shape, natural, whole, after, ended, both, many, either, put, read, words_of, Fits}
+use Rattle.words.specs.Shapes.{Shape, nothing, natural, whole, after, ended, both, many, either, put, read, words_of, Fits}
 
 -- whether it cannot begin with a closing bracket
 abbrev pub opens : {A : Type 0} → Shape A → Bool
+opens nothing = false
 opens (natural lo hi) = true
 opens (whole lo hi) = true
 opens (after w f) = not (bytes_eq w close_text)
@@ -24,6 +25,7 @@ pub record TenDigits (lo hi : ℤ) : Type 0 where
 
 -- ranges lie within ten digits, a repeat can be told from the bracket after it, and the two words of a choice differ
 abbrev pub Sound : {A : Type 0} → Shape A → Type 0
+Sound nothing = Unit {0}
 Sound (natural lo hi) = (pos 0 ≤ℤ lo) × TenDigits lo hi
 Sound (whole lo hi) = TenDigits lo hi
 Sound (after w f) = Sound f

@@ -5,6 +5,8 @@ use Rattle.std.proofs.Common.{inl, inr}
 use Rattle.words.specs.Grammar.{Reader, bind, give, number, magnitude, word, stands, up_to, open_text, close_text}
 
 pub data Shape : Type 0 → Type 1 where
+  -- no word
+  nothing : Shape (Unit {0})
   -- a numeral from lo to hi
   natural : ℤ → ℤ → Shape ℕ
   whole : ℤ → ℤ → Shape ℤ
@@ -23,6 +25,7 @@ pub data Shape : Type 0 → Type 1 where
 
 -- how a form is read
 abbrev pub read : {A : Type 0} → Shape A → Reader A
+read nothing s = give tt s
 read (natural lo hi) s = magnitude lo hi s
 read (whole lo hi) s = number lo hi s
 read (after w f) s = bind (word w s) (λ _. read f)
@@ -41,6 +44,7 @@ words_of_each ws (x ∷ xs) = ws x ++ words_of_each ws xs
 
 -- the words that a form is written with
 abbrev pub words_of : {A : Type 0} → Shape A → A → List (List ℕ)
+words_of nothing a = []
 words_of (natural lo hi) a = decimal a ∷ []
 words_of (whole lo hi) a = signed_decimal a ∷ []
 words_of (after w f) a = w ∷ words_of f a
@@ -57,6 +61,7 @@ EachFits Fit (x ∷ xs) = Fit x × EachFits Fit xs
 
 -- every numeral is in its range, and every repeat has its number of times
 abbrev pub Fits : {A : Type 0} → Shape A → A → Type 0
+Fits nothing a = Unit {0}
 Fits (natural lo hi) a = (lo ≤ℤ pos a) × (pos a ≤ℤ hi)
 Fits (whole lo hi) a = (lo ≤ℤ a) × (a ≤ℤ hi)
 Fits (after w f) a = Fits f a

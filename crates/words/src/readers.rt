@@ -2,7 +2,7 @@
 // another word or after the last byte, 6 at a word that may be a numeral there and is none, 7 at a numeral out of range.
 ghost use Rattle.std.specs.Prelude.{◌≡◌, if◌then◌else◌};
 ghost use Rattle.words.specs.Answers.{answer_of};
-ghost use Rattle.words.specs.Grammar.{word as word_read, end as end_read, stands, within};
+ghost use Rattle.words.specs.Grammar.{word as word_read, end as end_read, stands, ends, within};
 ghost use Rattle.words.specs.Shapes.{read, natural, whole, both, group};
 ghost use Rattle.words.specs.Seen.{state_of};
 
@@ -88,6 +88,14 @@ impl<'a> Words<'a> {
     {
         let mut ahead = *self;
         ahead.expect(want).is_ok()
+    }
+
+    // Whether no word is left. Passes nothing.
+    pub fn is_empty(&self) -> bool
+        ensures { result ≡ ends (state_of self.now) }
+    {
+        let mut ahead = *self;
+        ahead.end().is_ok()
     }
 
     // A group of one number, (KEY N).

@@ -1,0 +1,30 @@
+// The ranges that numerals of the day file have.
+use words::Range;
+
+// Units, states, periods, weights and denominators.
+pub(crate) const COUNT: Range = Range {
+    lo: 0,
+    hi: 2_147_483_647,
+};
+
+// Signed amounts.
+pub(crate) const AMOUNT: Range = Range {
+    lo: -2_147_483_648,
+    hi: 2_147_483_647,
+};
+
+pub(crate) const LOTS: Range = Range { lo: 1, hi: 500 };
+
+// Cents of a start or of a period.
+pub(crate) const MONEY: Range = Range {
+    lo: 0,
+    hi: 100_000_000,
+};
+
+// Cents a lot.
+pub(crate) const PRICE: Range = Range {
+    lo: -500_000,
+    hi: 500_000,
+};
+
+pub(crate) const PRICE_TO_PAY: Range = Range { lo: 0, hi: 500_000 };
