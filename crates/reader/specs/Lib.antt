@@ -1,3 +1,6 @@
 pub mod Offers
 pub mod Steps
 pub mod Lists
+pub mod Names
+pub mod Groups
+pub mod OfferParts

@@ -3,9 +3,13 @@
 
 mod buyer;
 mod checks;
+mod form;
+mod groups;
 mod lake;
+mod names;
 mod numbers;
 mod offer;
+mod offer_parts;
 mod parts;
 mod ramp;
 mod ranges;
@@ -13,6 +17,7 @@ mod steam;
 mod steps;
 
 pub use buyer::Buyer;
+pub use form::Form;
 pub use lake::Lake;
 pub use numbers::{Flow, LakeNumbers, RampNumbers, Rate, Rest, Run, StartCosts, SteamNumbers, Was};
 pub use offer::Offer;

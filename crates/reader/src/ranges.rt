@@ -28,3 +28,22 @@ pub(crate) const PRICE: Range = Range {
 };
 
 pub(crate) const PRICE_TO_PAY: Range = Range { lo: 0, hi: 500_000 };
+
+// Periods that a unit stays on or off.
+pub(crate) const SHORT: Range = Range { lo: 1, hi: 24 };
+
+// Periods of a day.
+pub(crate) const PERIODS: Range = Range { lo: 1, hi: 48 };
+
+// Weights that mixes of a unit add up to.
+pub(crate) const WEIGHT: Range = Range { lo: 1, hi: 1_000 };
+
+// An output, or none.
+pub(crate) const OUTPUT: Range = Range { lo: 0, hi: 500 };
+
+// A lake's levels, of which the highest is no less than 1.
+pub(crate) const LEVEL: Range = Range { lo: 0, hi: 79 };
+
+pub(crate) const FULL: Range = Range { lo: 1, hi: 79 };
+
+pub(crate) const WEAR: Range = Range { lo: 0, hi: 100_000 };

@@ -1,0 +1,102 @@
+// The parts of an offer as they are read, and the offers that they make.
+ghost use Rattle.std.specs.Prelude.{◌≡◌};
+ghost use Rattle.words.specs.Answers.{answer_of, answer_by};
+ghost use Rattle.words.specs.Shapes.{read};
+ghost use Rattle.words.specs.Seen.{state_of};
+ghost use Rattle.reader.specs.OfferParts.{steam_parts, ramp_parts, steam_shape, ramp_shape, lake_shape};
+
+use crate::buyer::Buyer;
+use crate::groups::{read_flow, read_rate, read_rest, read_run, read_start, read_was};
+use crate::lake::Lake;
+use crate::numbers::{LakeNumbers, RampNumbers, Rate, Rest, Run, StartCosts, SteamNumbers, Was};
+use crate::offer::Offer;
+use crate::parts::read_steps;
+use crate::ramp::Ramp;
+use crate::ranges::{FULL, LEVEL, MONEY, OUTPUT, PRICE, WEAR};
+use crate::steam::Steam;
+use crate::steps::{Step, Steps};
+use arrayvec::ArrayVec;
+use terms::Decline;
+use words::Words;
+
+#[derive(Drop)]
+pub struct SteamParts {
+    pub run: Run,
+    pub rest: Rest,
+    pub start: StartCosts,
+    pub idle: u32,
+    pub steps: ArrayVec<Step, 4>,
+    pub was: Was,
+}
+
+#[derive(Drop)]
+pub struct RampParts {
+    pub run: Run,
+    pub rate: Rate,
+    pub start: u32,
+    pub idle: u32,
+    pub steps: ArrayVec<Step, 4>,
+    pub was: u32,
+}
+
+// After the name: (run LO HI) (rest UP DOWN COLD) (start HOT FROST) (idle N) (steps (Q P) ..) (was on M), or (was off M),
+// and the closing bracket.
+pub(crate) fn read_steam_parts(words: &mut Words) -> Result<SteamParts, Decline>
+    ensures { answer_by steam_parts result words.new ≡ read steam_shape (state_of words.old) }
+{
+    let run = read_run(words)?;
+    let rest = read_rest(words)?;
+    let start = read_start(words)?;
+    let idle = words.one(b"idle", MONEY)?;
+    let steps = read_steps(words, PRICE)?;
+    let was = read_was(words)?;
+    words.expect(b")")?;
+    Ok(SteamParts {
+        run,
+        rest,
+        start,
+        idle,
+        steps,
+        was,
+    })
+}
+
+// After the name: (run LO HI) (rate V B) (start S) (idle N) (steps (Q P) ..) (was A), and the closing bracket.
+pub(crate) fn read_ramp_parts(words: &mut Words) -> Result<RampParts, Decline>
+    ensures { answer_by ramp_parts result words.new ≡ read ramp_shape (state_of words.old) }
+{
+    let run = read_run(words)?;
+    let rate = read_rate(words)?;
+    let start = words.one(b"start", MONEY)?;
+    let idle = words.one(b"idle", MONEY)?;
+    let steps = read_steps(words, PRICE)?;
+    let was = words.one(b"was", OUTPUT)?;
+    words.expect(b")")?;
+    Ok(RampParts {
+        run,
+        rate,
+        start,
+        idle,
+        steps,
+        was,
+    })
+}
+
+// After the name: (full C) (flow G R) (wear Y) (was L) (end E), and the closing bracket.
+pub(crate) fn read_lake_numbers(words: &mut Words) -> Result<LakeNumbers, Decline>
+    ensures { answer_of result words.new ≡ read lake_shape (state_of words.old) }
+{
+    let full = words.one(b"full", FULL)?;
+    let flow = read_flow(words)?;
+    let wear = words.one(b"wear", WEAR)?;
+    let was = words.one(b"was", LEVEL)?;
+    let end = words.one(b"end", LEVEL)?;
+    words.expect(b")")?;
+    Ok(LakeNumbers {
+        full: full as usize,
+        flow,
+        wear,
+        was: was as usize,
+        end: end as usize,
+    })
+}
