@@ -4,3 +4,5 @@ pub mod Lists
 pub mod Names
 pub mod Groups
 pub mod OfferParts
+pub mod Agreement
+pub mod Forms

@@ -3,6 +3,7 @@
 
 mod buyer;
 mod checks;
+mod day_forms;
 mod form;
 mod groups;
 mod lake;
