@@ -1,1 +1,2 @@
 mod StepLists
+mod Padded

@@ -6,3 +6,4 @@ pub mod Groups
 pub mod OfferParts
 pub mod Agreement
 pub mod Forms
+pub mod OfferMade

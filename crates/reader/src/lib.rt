@@ -10,6 +10,7 @@ mod lake;
 mod names;
 mod numbers;
 mod offer;
+mod offer_forms;
 mod offer_parts;
 mod parts;
 mod ramp;

@@ -3,7 +3,10 @@ ghost use Rattle.std.specs.Prelude.{◌≡◌};
 ghost use Rattle.words.specs.Answers.{answer_of, answer_by};
 ghost use Rattle.words.specs.Shapes.{read};
 ghost use Rattle.words.specs.Seen.{state_of};
+ghost use Rattle.reader.specs.declared.names.FormName.TheVariants as name;
+ghost use Rattle.reader.specs.Offers.{fair_lake};
 ghost use Rattle.reader.specs.OfferParts.{steam_parts, ramp_parts, steam_shape, ramp_shape, lake_shape};
+ghost use Rattle.reader.specs.OfferMade.{fair_steam_parts, fair_ramp_parts, fair_buyer_parts, OfferIs};
 
 use crate::buyer::Buyer;
 use crate::groups::{read_flow, read_rate, read_rest, read_run, read_start, read_was};
@@ -99,4 +102,56 @@ pub(crate) fn read_lake_numbers(words: &mut Words) -> Result<LakeNumbers, Declin
         was: was as usize,
         end: end as usize,
     })
+}
+
+impl SteamParts {
+    // The offer, if the numbers agree.
+    pub(crate) fn offer(&self) -> Option<Offer>
+        ensures { OfferIs (fair_steam_parts (steam_parts self.now)) (record { name = name.Steam; values = steam_parts self.now }) result }
+    {
+        let steps = Steps::new(self.steps.as_slice())?;
+        let steam = Steam::new(SteamNumbers {
+            run: self.run,
+            rest: self.rest,
+            start: self.start,
+            idle: self.idle,
+            steps,
+            was: self.was,
+        })?;
+        Some(Offer::Steam(steam))
+    }
+}
+
+impl RampParts {
+    // The offer, if the numbers agree.
+    pub(crate) fn offer(&self) -> Option<Offer>
+        ensures { OfferIs (fair_ramp_parts (ramp_parts self.now)) (record { name = name.Ramp; values = ramp_parts self.now }) result }
+    {
+        let steps = Steps::new(self.steps.as_slice())?;
+        let ramp = Ramp::new(RampNumbers {
+            run: self.run,
+            rate: self.rate,
+            start: self.start,
+            idle: self.idle,
+            steps,
+            was: self.was,
+        })?;
+        Some(Offer::Ramp(ramp))
+    }
+}
+
+// A buyer of these steps, if they agree.
+pub(crate) fn buyer_of(steps: &[Step]) -> Option<Offer>
+    ensures { OfferIs (fair_buyer_parts steps.now) (record { name = name.Buyer; values = steps.now }) result }
+{
+    let steps = Steps::new(steps)?;
+    let buyer = Buyer::new(steps)?;
+    Some(Offer::Buyer(buyer))
+}
+
+pub(crate) fn lake_of(numbers: LakeNumbers) -> Option<Offer>
+    ensures { OfferIs (fair_lake numbers) (record { name = name.Lake; values = numbers }) result }
+{
+    let lake = Lake::new(numbers)?;
+    Some(Offer::Lake(lake))
 }
