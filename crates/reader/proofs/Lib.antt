@@ -1,2 +1,7 @@
 mod StepLists
 mod Padded
+mod Soundness
+mod Fairness
+mod OfferForms
+mod Named
+mod Exactly

@@ -1,8 +1,7 @@
 -- Steps in the places of an offer, and the offers that parts make.
-use Rattle.std.proofs.Common.{◌≡◌, ℕ, zero, suc, ◌+◌, ◌-◌, ◌<◌, ◌≤◌, Bool, true, false, cond, List, [], ◌∷◌, ◌++◌, length, replicate, pos, sym, refl, ap, ◌∙◌, arith}
+use Rattle.std.proofs.Common.{◌≡◌, ℕ, zero, suc, ◌+◌, ◌-◌, ◌≤◌, Bool, true, List, [], ◌∷◌, ◌++◌, length, replicate, pos, sym, refl, ap, ◌∙◌, arith}
 use Rattle.std.specs.Prelude.{◌==◌, ◌&&◌, nat_le, int_le}
-use Rattle.std.specs.List.{list_all}
-use Rattle.std.proofs.lemmas.Bool.{and_parts, and_from, and_right, cond-true, cond-false, leb-true, ne_eqb}
+use Rattle.std.proofs.lemmas.Bool.{and_parts, cond-false, leb-true, ne_eqb}
 use Rattle.reader.specs.declared.steps.Step.{Step}
 use Rattle.reader.specs.declared.steps.Steps.{Steps}
 use Rattle.reader.specs.declared.numbers.SteamNumbers.{SteamNumbers}
@@ -10,7 +9,6 @@ use Rattle.reader.specs.declared.numbers.RampNumbers.{RampNumbers}
 use Rattle.reader.specs.declared.names.FormName.TheVariants as name
 use Rattle.reader.specs.Steps.{fair_step, fair_steps, fair_list, lots_in, no_step}
 use Rattle.reader.specs.Offers.{fair_run, fair_times, fair_costs, fair_was, fair_rate, fair_money, fair_output, narrow, no_price_below, fair_steam, fair_ramp, fair_buyer}
-use Rattle.reader.specs.OfferParts.{SteamValues, RampValues}
 use Rattle.reader.specs.OfferMade.{fair_steam_parts, fair_ramp_parts, fair_buyer_parts}
 use Rattle.reader.specs.Agreement.{used}
 use Rattle.reader.specs.Forms.{Line}

@@ -1,5 +1,5 @@
 -- Which numbers of an offer agree, each of them being in its range. Assumes nothing.
-use Rattle.std.specs.Prelude.{ℕ, ◌+◌, Bool, cond, ◌&&◌, ◌||◌, List, [], ◌∷◌, ◌==◌, nat_le}
+use Rattle.std.specs.Prelude.{◌+◌, Bool, cond, ◌&&◌, ◌||◌, List, [], ◌∷◌, ◌==◌, nat_le}
 use Rattle.reader.specs.declared.steps.Step.{Step}
 use Rattle.reader.specs.declared.numbers.LakeNumbers.{LakeNumbers}
 use Rattle.reader.specs.Offers.{between}

@@ -1,6 +1,5 @@
 -- What a line of a day file says, by its form. Assumes nothing.
 use Rattle.std.specs.Prelude.{ℕ, ◌+◌, Bool, true, cond, List, length, ℤ, pos, Some, None, Ok, Err, Option, Result}
-use Rattle.arrayvec.specs.ArrayVec.{ArrayVec}
 use Rattle.terms.specs.declared.decline.Decline.{Decline}
 use Rattle.terms.specs.declared.entry.Entry.{Entry}
 use Rattle.terms.specs.Declines.{number_of}
@@ -17,8 +16,8 @@ use Rattle.reader.specs.declared.offer.Offer.TheVariants as offer
 use Rattle.reader.specs.declared.form.Form.{Form}
 use Rattle.reader.specs.declared.form.Form.TheVariants as form
 use Rattle.reader.specs.Names.{read_name}
-use Rattle.reader.specs.Lists.{amounts_shape, schedule_shape, steps_shape}
-use Rattle.reader.specs.OfferParts.{SteamValues, RampValues, steam_shape, ramp_shape, lake_shape}
+use Rattle.reader.specs.Lists.{amounts_shape, schedule_shape}
+use Rattle.reader.specs.OfferParts.{SteamValues, RampValues, steam_shape, ramp_shape, lake_shape, buyer_shape}
 use Rattle.reader.specs.Agreement.{steam_agrees, ramp_agrees, lake_agrees, buyer_agrees, used}
 
 -- the numbers of each form
@@ -47,7 +46,7 @@ shape_of name.Day = ended (both (natural (pos 1) (pos 48)) (natural (pos 1) (pos
 shape_of name.Steam = steam_shape
 shape_of name.Ramp = ramp_shape
 shape_of name.Lake = lake_shape
-shape_of name.Buyer = ended (steps_shape (pos 0) (pos 500000))
+shape_of name.Buyer = buyer_shape
 shape_of name.Out = ended (both count (both count count))
 shape_of name.Need = amounts_shape
 shape_of name.Price = both count amounts_shape

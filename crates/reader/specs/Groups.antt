@@ -1,5 +1,5 @@
 -- The groups of an offer. Assumes nothing.
-use Rattle.std.specs.Prelude.{ℕ, ℤ, pos, codes, ◌⊎◌}
+use Rattle.std.specs.Prelude.{ℕ, pos, codes, ◌⊎◌}
 use Rattle.std.proofs.Common.{inl, inr}
 use Rattle.words.specs.Shapes.{Shape, natural, both, either, put, group}
 use Rattle.reader.specs.declared.numbers.Run.{Run}

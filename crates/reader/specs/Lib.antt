@@ -7,3 +7,4 @@ pub mod OfferParts
 pub mod Agreement
 pub mod Forms
 pub mod OfferMade
+pub mod LineLaws

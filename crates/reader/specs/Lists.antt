@@ -1,5 +1,5 @@
 -- What forms repeat. Assumes nothing.
-use Rattle.std.specs.Prelude.{ℕ, List, ℤ, pos, neg_ℤ, codes}
+use Rattle.std.specs.Prelude.{List, ℤ, pos, neg_ℤ, codes}
 use Rattle.arrayvec.specs.ArrayVec.{ArrayVec}
 use Rattle.terms.specs.declared.entry.Entry.{Entry}
 use Rattle.words.specs.Shapes.{Shape, natural, whole, after, both, many, put, bracketed}

@@ -11,7 +11,7 @@ use Rattle.reader.specs.declared.numbers.LakeNumbers.{LakeNumbers}
 use Rattle.reader.specs.declared.offer_parts.SteamParts.{SteamParts}
 use Rattle.reader.specs.declared.offer_parts.RampParts.{RampParts}
 use Rattle.reader.specs.Lists.{steps_shape}
-use Rattle.reader.specs.Groups.{lots, money, level, run_shape, rest_shape, start_shape, rate_shape, flow_shape, was_shape}
+use Rattle.reader.specs.Groups.{money, level, run_shape, rest_shape, start_shape, rate_shape, flow_shape, was_shape}
 
 -- run, rest, start costs, idle cost, steps, and what was before the day
 abbrev pub SteamValues : Type 0
@@ -37,6 +37,9 @@ lake_shape =
     (λ n. (n.full, (n.flow, (n.wear, (n.was, n.end)))))
     (ended (both (group (codes "full") (natural (pos 1) (pos 79))) (both flow_shape
     (both (group (codes "wear") (natural (pos 0) (pos 100000))) (both (group (codes "was") level) (group (codes "end") level))))))
+
+abbrev pub buyer_shape : Shape (List Step)
+buyer_shape = ended (steps_shape (pos 0) (pos 500000))
 
 abbrev pub steam_parts : SteamParts → SteamValues
 steam_parts p = (p.run, (p.rest, (p.start, (p.idle, (p.steps.items, p.was)))))

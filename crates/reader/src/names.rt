@@ -8,7 +8,7 @@ use terms::{Cause, Decline};
 use words::Words;
 
 #[derive(Clone, Copy, PartialEq, Eq, Debug)]
-pub enum FormName {
+pub(crate) enum FormName {
     Day,
     Steam,
     Ramp,

@@ -8,9 +8,9 @@ ghost use Rattle.reader.specs.Forms.{read_form, line_of};
 
 use crate::form::Form;
 use crate::offer::Offer;
-use crate::offer_parts::{buyer_of, lake_of, read_lake_numbers, read_ramp_parts, read_steam_parts};
-use crate::parts::read_steps;
-use crate::ranges::PRICE_TO_PAY;
+use crate::offer_parts::{
+    buyer_of, lake_of, read_buyer_steps, read_lake_numbers, read_ramp_parts, read_steam_parts,
+};
 use terms::{Cause, Decline};
 use words::Words;
 
@@ -54,8 +54,7 @@ pub(crate) fn read_lake(words: &mut Words) -> Result<Form, Decline>
 pub(crate) fn read_buyer(words: &mut Words) -> Result<Form, Decline>
     ensures { answer_by line_of result words.new ≡ read_form name.Buyer (state_of words.old) }
 {
-    let steps = read_steps(words, PRICE_TO_PAY)?;
-    words.expect(b")")?;
+    let steps = read_buyer_steps(words)?;
     words.end()?;
     checked(buyer_of(steps.as_slice()))
 }

@@ -5,7 +5,8 @@ ghost use Rattle.words.specs.Shapes.{read};
 ghost use Rattle.words.specs.Seen.{state_of};
 ghost use Rattle.reader.specs.declared.names.FormName.TheVariants as name;
 ghost use Rattle.reader.specs.Offers.{fair_lake};
-ghost use Rattle.reader.specs.OfferParts.{steam_parts, ramp_parts, steam_shape, ramp_shape, lake_shape};
+ghost use Rattle.reader.specs.OfferParts.{steam_parts, ramp_parts, steam_shape, ramp_shape, lake_shape, buyer_shape};
+ghost use Rattle.reader.specs.Lists.{items_of};
 ghost use Rattle.reader.specs.OfferMade.{fair_steam_parts, fair_ramp_parts, fair_buyer_parts, OfferIs};
 
 use crate::buyer::Buyer;
@@ -15,7 +16,7 @@ use crate::numbers::{LakeNumbers, RampNumbers, Rate, Rest, Run, StartCosts, Stea
 use crate::offer::Offer;
 use crate::parts::read_steps;
 use crate::ramp::Ramp;
-use crate::ranges::{FULL, LEVEL, MONEY, OUTPUT, PRICE, WEAR};
+use crate::ranges::{FULL, LEVEL, MONEY, OUTPUT, PRICE, PRICE_TO_PAY, WEAR};
 use crate::steam::Steam;
 use crate::steps::{Step, Steps};
 use arrayvec::ArrayVec;
@@ -23,7 +24,7 @@ use terms::Decline;
 use words::Words;
 
 #[derive(Drop)]
-pub struct SteamParts {
+pub(crate) struct SteamParts {
     pub run: Run,
     pub rest: Rest,
     pub start: StartCosts,
@@ -33,7 +34,7 @@ pub struct SteamParts {
 }
 
 #[derive(Drop)]
-pub struct RampParts {
+pub(crate) struct RampParts {
     pub run: Run,
     pub rate: Rate,
     pub start: u32,
@@ -102,6 +103,15 @@ pub(crate) fn read_lake_numbers(words: &mut Words) -> Result<LakeNumbers, Declin
         was: was as usize,
         end: end as usize,
     })
+}
+
+// After the name: (steps (Q P) ..), of prices that are not below 0, and the closing bracket.
+pub(crate) fn read_buyer_steps(words: &mut Words) -> Result<ArrayVec<Step, 4>, Decline>
+    ensures { answer_by items_of result words.new ≡ read buyer_shape (state_of words.old) }
+{
+    let steps = read_steps(words, PRICE_TO_PAY)?;
+    words.expect(b")")?;
+    Ok(steps)
 }
 
 impl SteamParts {

@@ -8,7 +8,7 @@ use Rattle.std.proofs.lemmas.Slice.Eq.{bytes_eq-Decides}
 use Rattle.std.proofs.lemmas.Option.{same_Some}
 use Rattle.words.specs.Lines.{Word, texts}
 use Rattle.words.specs.Numerals.{value_of}
-use Rattle.words.specs.Grammar.{State, Answer, Reader, got, no, bind, head, tail, first, past, Kind, bracket, name, numeral, is_bracket_text, kind_of_text, word_in, word, within, number_said, number_at, number_in, number, stands, is_got}
+use Rattle.words.specs.Grammar.{State, Answer, Reader, got, no, bind, head, tail, first, past, Kind, bracket, name, numeral, is_bracket_text, kind_of_text, word_in, word, within, number_said, number_at, number_in, number, stands, end, ends, is_got}
 use Rattle.words.proofs.Decimals.{value_decimal, decimal_value, decimal_no_bracket}
 
 pub never : {A : Type 0} {X : Type 0} (n p : ℕ) (a : A) (s : State) → ◌≡◌ {A = Answer A} (no n p) (got a s) → X
@@ -155,3 +155,26 @@ stands_always w s t e = ap is_got e
 -- two words that stand in one place are one
 pub one_word : (v w : List ℕ) (s t u : State) → Passed s t v → Passed s u w → v ≡ w
 one_word v w s t u x y = let z : v ∷ texts t.left ≡ w ∷ texts u.left = sym x.words ∙ y.words in cc
+
+-- the end of a line
+end_by : (ws : List Word) (e : ℕ) (t : State) → end (record { left = ws; end = e }) ≡ got tt t → (texts ws ≡ []) × (t ≡ record { left = ws; end = e })
+unfolding end
+end_by [] e t h = (refl, sym (got_same tt tt (record { left = []; end = e }) t h).state)
+end_by (w ∷ ws) e t h = never 5 w.place tt t h
+
+pub end_only : (s t : State) → end s ≡ got tt t → (texts s.left ≡ []) × (t ≡ s)
+end_only s t h = end_by s.left s.end t h
+
+end_at : (ws : List Word) (e : ℕ) → texts ws ≡ [] → end (record { left = ws; end = e }) ≡ got tt (record { left = ws; end = e })
+unfolding end
+end_at [] e h = refl
+end_at (w ∷ ws) e h = let z : ◌≡◌ {A = ℕ} 0 1 = cc in absurd (omega arith)
+
+pub end_always : (s : State) → texts s.left ≡ [] → end s ≡ got tt s
+end_always s h = end_at s.left s.end h
+
+pub ends_only : (s : State) → ends s ≡ true → texts s.left ≡ []
+ends_only s e = let g = got_is (end s) e in (end_only s g.1 g.2).0
+
+pub ends_always : (s : State) → texts s.left ≡ [] → ends s ≡ true
+ends_always s h = ap is_got (end_always s h)

@@ -52,7 +52,7 @@ impl<'a> Word<'a> {
     }
 
     // The number that it says, if it is a numeral.
-    pub fn value(self) -> Option<i64>
+    pub(crate) fn value(self) -> Option<i64>
         ensures { result ≡ value_of (text_of self.entry) }
     {
         value_of(self.text())

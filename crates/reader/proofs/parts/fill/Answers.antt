@@ -1,10 +1,10 @@
-use Rattle.std.proofs.Common.{◌≡◌, ℕ, ◌+◌, ◌-◌, ◌<◌, true, false, ◌⊎◌, List, [], ◌∷◌, ◌++◌, length, take, set, sym, refl, ap, ◌∙◌, inl, inr, arith, rules}
+use Rattle.std.proofs.Common.{◌≡◌, ◌+◌, ◌-◌, true, false, ◌⊎◌, [], length, take, set, sym, ap, ◌∙◌, inl, inr, arith}
 use Rattle.std.specs.Prelude.{nat_lt, ◌&&◌}
 use Rattle.std.proofs.lemmas.List.{take_more_set, length-set}
 use native.Mathlib.Nat.{sub-zero}
 use Rattle.std.proofs.lemmas.Bool.{lt-ltb}
 use Rattle.std.proofs.lemmas.Result.{err_from_is_err_and}
-use Rattle.words.specs.Grammar.{no, word, stands, close_text, up_to}
+use Rattle.words.specs.Grammar.{stands, close_text, up_to}
 use Rattle.words.specs.Shapes.{read}
 use Rattle.words.specs.Seen.{state_of}
 use Rattle.words.proofs.Repeats.{prepend, prepend_none, more_read, more_declined, no_more, closed_read, closed_declined}
@@ -25,8 +25,7 @@ loop-count-preserved g c =
     let k = length-set c.loop-count.places n x in
     let e = take_more_set c.loop-count.places n x (omega arith) in
     let m : length (set c.loop-count.places n x) - (n + 1) ≡ length c.loop-count.places - n - 1 = omega (arith, k) in
-    let t : nat_lt 0 (n + 1) ≡ true = lt-ltb 0 (n + 1) (omega arith) in
-    (
+    let t : nat_lt 0 (n + 1) ≡ true = lt-ltb 0 (n + 1) (omega arith) in (
       omega (arith, k),
       (λ i. prepend (e i) (up_to (m i) (t i) r s))
           ∙ sym (more_read r (take n c.loop-count.places) (state_of c.loop-count.words) (length c.loop-count.places - n) (nat_lt 0 n) x s (omega arith) (sym c.has_ended.ensures ∙ c.if-not-has_ended.true) c.in_ok-places.ensures)

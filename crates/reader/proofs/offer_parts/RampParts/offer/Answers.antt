@@ -13,8 +13,7 @@ pub returns : goal.returns
 returns c =
     let f = rw c.as_slice.ensures.value at c.in_ok-steps.ensures in
     let g = c.in_ok-ramp.ensures in
-    let n : RampNumbers = record { run = c.args.self.now.run; rate = c.args.self.now.rate; start = c.args.self.now.start; idle = c.args.self.now.idle; steps = c.in_ok-steps.steps; was = c.args.self.now.was } in
-    (
+    let n : RampNumbers = record { run = c.args.self.now.run; rate = c.args.self.now.rate; start = c.args.self.now.start; idle = c.args.self.now.idle; steps = c.in_ok-steps.steps; was = c.args.self.now.was } in (
       ramp_test c.args.self.now.steps.items c.in_ok-steps.steps f.0 f.1 n _ refl g.0,
       ramp_line c.args.self.now.steps.items c.in_ok-steps.steps f.0 f.1 c.in_ok-ramp.ramp.numbers n g.1 refl,
     )

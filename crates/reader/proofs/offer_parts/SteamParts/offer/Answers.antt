@@ -13,8 +13,7 @@ pub returns : goal.returns
 returns c =
     let f = rw c.as_slice.ensures.value at c.in_ok-steps.ensures in
     let g = c.in_ok-steam.ensures in
-    let n : SteamNumbers = record { run = c.args.self.now.run; rest = c.args.self.now.rest; start = c.args.self.now.start; idle = c.args.self.now.idle; steps = c.in_ok-steps.steps; was = c.args.self.now.was } in
-    (
+    let n : SteamNumbers = record { run = c.args.self.now.run; rest = c.args.self.now.rest; start = c.args.self.now.start; idle = c.args.self.now.idle; steps = c.in_ok-steps.steps; was = c.args.self.now.was } in (
       steam_test c.args.self.now.steps.items c.in_ok-steps.steps f.0 f.1 n _ refl g.0,
       steam_line c.args.self.now.steps.items c.in_ok-steps.steps f.0 f.1 c.in_ok-steam.steam.numbers n g.1 refl,
     )
