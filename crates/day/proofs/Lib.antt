@@ -1,0 +1,4 @@
+mod Asks
+mod Cuts
+mod Lines
+mod Opens

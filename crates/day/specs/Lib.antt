@@ -1,0 +1,6 @@
+pub mod Answering
+pub mod Cutting
+pub mod Going
+pub mod Holding
+pub mod Said
+pub mod Settling

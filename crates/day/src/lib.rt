@@ -1,0 +1,12 @@
+// A whole day file, and the text that it is answered with.
+#![tactic(auto)]
+
+mod begun;
+mod cutting;
+mod lining;
+mod open;
+mod session;
+mod settling;
+mod tables;
+
+pub use settling::settle;
