@@ -1,4 +1,5 @@
 mod Asks
 mod Cuts
+mod Lasts
 mod Lines
 mod Opens

@@ -29,11 +29,11 @@ BegunGoes day form after answer =
     (T W : ℕ) (os : List AnOffer) (xs : List Outage) → Holds (Begun day) (begun T W os xs)
     → ((line : ℕ) → BegunReply os xs form line (enters line answer) T W) × Holds after (after_begun T W os xs form)
 
--- a call that asks the open docket and alters nothing
-abbrev pub AsksGoes : OpenDay → Call → (Meaning → ℕ → ℕ → Ledger → Type 0) → Type 0
-AsksGoes day call AnsweredSo =
-    (T W : ℕ) (os : List AnOffer) (xs : List Outage) (cs : List Call) → Holds (Open day) (opened T W os xs cs)
-    → AnsweredSo (fleet_of os xs) T W (ledger (fleet_of os xs) T W cs) × Holds (Open day) (opened T W os xs (cs ++ (call ∷ [])))
+-- a call that asks the open docket
+abbrev pub AsksGoes : OpenDay → OpenDay → Call → (Meaning → ℕ → ℕ → Ledger → Type 0) → Type 0
+AsksGoes old new call AnsweredSo =
+    (T W : ℕ) (os : List AnOffer) (xs : List Outage) (cs : List Call) → Holds (Open old) (opened T W os xs cs)
+    → AnsweredSo (fleet_of os xs) T W (ledger (fleet_of os xs) T W cs) × Holds (Open new) (opened T W os xs (cs ++ (call ∷ [])))
 
 -- a form while the docket is open
 abbrev pub DocketGoes : OpenDay → OpenDay → Form → ℕ → Reply → Type 0

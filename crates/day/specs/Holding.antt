@@ -5,9 +5,11 @@ use Rattle.fleet_kinds.specs.declared.outages.Outages.{Outages}
 use Rattle.fleet_kinds.specs.OutageLists.{out_meaning}
 use Rattle.offers.specs.declared.book.Book.{Book}
 use Rattle.offers.specs.Books.{book_meaning}
+use Rattle.settlement.specs.Ledger.{ledger}
 use Rattle.settlement.specs.Follow.{Follows}
 use Rattle.day.specs.declared.session.Session.{Session}
 use Rattle.day.specs.declared.session.Session.TheVariants.{Before, Begun, Open}
+use Rattle.day.specs.Lasting.{Lasting}
 use Rattle.day.specs.Said.{Said, nothing, begun, opened, fleet_of}
 
 -- the meaning of a book under outages
@@ -23,4 +25,6 @@ Holds (Begun b) (begun T W os xs) = (b.periods ≡ T) × (b.weight ≡ W) × (b.
 Holds (Begun b) (opened T W os xs cs) = ⊥
 Holds (Open o) nothing = ⊥
 Holds (Open o) (begun T W os xs) = ⊥
-Holds (Open o) (opened T W os xs cs) = (o.periods ≡ T) × (o.units ≡ length os) × Follows mean (fleet_of os xs) T W cs o.docket
+Holds (Open o) (opened T W os xs cs) =
+    (o.periods ≡ T) × (o.units ≡ length os) × Follows mean (fleet_of os xs) T W cs o.docket
+    × Lasting (fleet_of os xs) T W (ledger (fleet_of os xs) T W cs) o.known.supplies o.known.shows

@@ -3,6 +3,7 @@ ghost use Rattle.std.specs.Prelude.{◌≡◌};
 ghost use Rattle.day.specs.Answering.{enters};
 ghost use Rattle.day.specs.Going.{BegunGoes, NeedGoes};
 
+use crate::known::Known;
 use crate::session::{BegunDay, OpenDay, Session};
 use fleet::Fleet;
 use fleet_kinds::Outage;
@@ -27,6 +28,7 @@ fn open(day: BegunDay, wanted: &[i32]) -> (Session, Result<(), Decline>)
                 periods,
                 units,
                 docket,
+                known: Known::new(),
             };
             (Session::Open(day), answer)
         }

@@ -3,6 +3,7 @@
 
 mod begun;
 mod cutting;
+mod known;
 mod lining;
 mod open;
 mod session;

@@ -1,14 +1,21 @@
 // The forms of a day whose docket is open.
 ghost use Rattle.std.specs.Prelude.{◌≡◌, ◌≤◌, length, take};
 ghost use Rattle.settlement.specs.Ledger.{supply, show, judge};
+ghost use Rattle.settlement.specs.Follow.{GoesOn};
+ghost use Rattle.day.specs.Holding.{mean};
+ghost use Rattle.day.specs.Lasting.{ShowIs, ShownSo};
 ghost use Rattle.day.specs.Answering.{enters, supplies, SupplyAnswer, ShowAnswer, JudgeAnswer};
 ghost use Rattle.day.specs.Going.{DocketGoes, AsksGoes};
 
+use crate::known::ShowAnswer;
 use crate::session::OpenDay;
 use crate::tables::Tables;
 use arrayvec::ArrayVec;
+use fleet_kinds::Outages;
+use offers::Book;
 use reader::Form;
 use replies::Reply;
+use settlement::Docket;
 use terms::{Cause, Decline, Entry};
 
 // Nothing, or why a call is declined.
@@ -35,10 +42,15 @@ fn supplied(unit: usize, line: usize, answer: Result<(i64, i64, i64), Decline>) 
     }
 }
 
-fn supply(day: &OpenDay, unit: usize, line: usize, tables: &mut Tables) -> Reply
-    ensures { AsksGoes day.now (supply unit 3920 3920) (SupplyAnswer unit line result) }
+// What is known of the unit, or what the docket answers.
+fn supply(day: &mut OpenDay, unit: usize, line: usize, tables: &mut Tables) -> Reply
+    ensures { AsksGoes day.old day.new (supply unit 3920 3920) (SupplyAnswer unit line result) }
 {
+    if let Some(answer) = day.known.supply(unit) {
+        return supplied(unit, line, answer);
+    }
     let answer = day.docket.supply(unit, &mut tables.fewer, &mut tables.more);
+    day.known.keep_supply(unit, answer);
     supplied(unit, line, answer)
 }
 
@@ -52,21 +64,42 @@ fn first_of<T: Copy + Default, const N: usize>(items: &[T], count: usize) -> Arr
     first
 }
 
-fn show(day: &OpenDay, unit: usize, line: usize, tables: &mut Tables) -> Reply
-    ensures { AsksGoes day.now (show unit 3920 48) (ShowAnswer unit line result) }
+// The whole buffer that the docket's show writes.
+fn searched(docket: &Docket<Outages<Book>>, unit: usize, tables: &mut Tables) -> ShowAnswer
+    ensures { GoesOn mean docket.now docket.now (show unit 3920 48) (ShowIs unit result) }
 {
     let mut schedule = [Entry::default(); 48];
-    match day.docket.show(unit, &mut tables.gains, &mut schedule) {
-        Ok(()) => Reply::Show {
+    match docket.show(unit, &mut tables.gains, &mut schedule) {
+        Ok(()) => Ok(schedule),
+        Err(decline) => Err(decline),
+    }
+}
+
+fn shown(unit: usize, line: usize, periods: usize, answer: ShowAnswer) -> Reply
+    ensures { ShownSo unit periods line answer result }
+{
+    match answer {
+        Ok(schedule) => Reply::Show {
             unit,
-            schedule: first_of(&schedule, day.periods),
+            schedule: first_of(&schedule, periods),
         },
         Err(decline) => Reply::No { decline, line },
     }
 }
 
+fn show(day: &mut OpenDay, unit: usize, line: usize, tables: &mut Tables) -> Reply
+    ensures { AsksGoes day.old day.new (show unit 3920 48) (ShowAnswer unit line result) }
+{
+    if let Some(answer) = day.known.show(unit) {
+        return shown(unit, line, day.periods, answer);
+    }
+    let answer = searched(&day.docket, unit, tables);
+    day.known.keep_show(unit, answer);
+    shown(unit, line, day.periods, answer)
+}
+
 fn judge(day: &OpenDay, line: usize) -> Reply
-    ensures { AsksGoes day.now (judge 64) (JudgeAnswer line result) }
+    ensures { AsksGoes day.now day.now (judge 64) (JudgeAnswer line result) }
 {
     let mut pays = [0; 64];
     match day.docket.judge(&mut pays) {

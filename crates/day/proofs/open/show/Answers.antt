@@ -1,19 +1,9 @@
-use Rattle.std.proofs.Common.{take, replicate, Ok, refl, ap, subst, ◌∙◌}
-use Rattle.settlement.specs.Ledger.{show}
-use Rattle.settlement.specs.Calls.{Shows}
-use Rattle.settlement.specs.Follow.{GoesOn}
-use Rattle.day.specs.Holding.{mean}
-use Rattle.day.proofs.Asks.{goes}
+use Rattle.std.proofs.Common.{sym, ◌∙◌}
+use Rattle.day.proofs.Asks.{show_known, show_asked}
 use Rattle.day.proofs.open.show.Goals as goal
 
-pub returns-in-Ok : goal.returns-in-Ok
-returns-in-Ok c T W os xs cs h =
-    let day = c.args.day.now in
-    let t = c.args.tables.now in
-    let u = c.args.unit in
-    let old = replicate 48 c.default-schedule.result in
-    let new = c.show.new.out in
-    let r = Ok c.in-Ok.field-0 in
-    let a = subst (λ k. GoesOn mean day.docket day.docket (show u k 48) (Shows u k old new r)) t.gains_whole c.in-Ok.ensures.goes in
-    let g = goes day day (show u 3920 48) (Shows u 3920 old new r) a refl refl T W os xs cs h in
-    ((r, old, new, refl, g.0, (refl, c.first_of.ensures ∙ ap (λ k. take k new) h.0)), g.1)
+pub returns-in-Some : goal.returns-in-Some
+returns-in-Some c = show_known c.args.day.now c.args.unit c.args.line c.in-Some.answer c.shown.result (sym c.show.ensures ∙ c.in-Some.is) c.shown.ensures
+
+pub returns : goal.returns
+returns c = show_asked c.args.day.now c.keep_show.new.self c.args.unit c.args.line c.searched-answer.result c.shown-2.result c.searched-answer.ensures c.keep_show.ensures.shows c.keep_show.ensures.supplies c.shown-2.ensures
