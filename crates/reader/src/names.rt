@@ -74,8 +74,5 @@ pub(crate) fn read_name(words: &mut Words) -> Result<FormName, Decline>
     let Some(found) = words.next() else {
         return Err(Cause::UnexpectedWord.at(words.place_after()));
     };
-    match find_name(found.word.text()) {
-        Some(name) => Ok(name),
-        None => Err(Cause::UnknownForm.at(found.place)),
-    }
+    find_name(found.word.text()).ok_or(Cause::UnknownForm.at(found.place))
 }

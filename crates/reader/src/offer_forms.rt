@@ -17,10 +17,7 @@ use words::Words;
 fn checked(offer: Option<Offer>) -> Result<Form, Decline>
     ensures { result ≡ checked offer }
 {
-    match offer {
-        Some(offer) => Ok(Form::Offer(offer)),
-        None => Err(Cause::OfferDisagrees.at(1)),
-    }
+    offer.map(Form::Offer).ok_or(Cause::OfferDisagrees.at(1))
 }
 
 // (steam ..)

@@ -1,5 +1,4 @@
 pub mod Scans
-pub mod Signs
 pub mod Cuts
 pub mod Numbers
 pub mod Decimals

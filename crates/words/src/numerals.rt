@@ -8,14 +8,8 @@ pub(crate) fn value_of(word: &[u8]) -> Option<i64>
 {
     match word {
         [b'0'] => Some(0),
-        [b'-', digits @ ..] => match natural_of(digits) {
-            Some(n) => Some(-(n as i64)),
-            None => None,
-        },
-        digits => match natural_of(digits) {
-            Some(n) => Some(n as i64),
-            None => None,
-        },
+        [b'-', digits @ ..] => natural_of(digits).map(|n| -(n as i64)),
+        digits => natural_of(digits).map(|n| n as i64),
     }
 }
 

@@ -68,10 +68,9 @@ impl<'a> Words<'a> {
         let Some(number) = found.word.value() else {
             return Err(Cause::NotANumeral.at(found.place));
         };
-        match range.only(number) {
-            Some(number) => Ok(number),
-            None => Err(Cause::NumeralOutOfRange.at(found.place)),
-        }
+        range
+            .only(number)
+            .ok_or(Cause::NumeralOutOfRange.at(found.place))
     }
 
     // A numeral in a range of numbers that are not negative.
