@@ -1,4 +1,4 @@
-// The four offers, as records that keep their rules.
+// The forms of a day file, as its lines are read to them, and the four offers as records that keep their rules.
 #![tactic(auto)]
 
 mod buyer;

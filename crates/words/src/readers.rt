@@ -1,5 +1,6 @@
 // The small readers that every form is made of. Each either finds what it wants and passes it, or declines: with 5 at
 // another word or after the last byte, 6 at a word that may be a numeral there and is none, 7 at a numeral out of range.
+// What is left of a line after a decline is not said, since nothing reads on.
 ghost use Rattle.std.specs.Prelude.{◌≡◌, if◌then◌else◌};
 ghost use Rattle.words.specs.Answers.{answer_of};
 ghost use Rattle.words.specs.Grammar.{word as word_read, end as end_read, stands, ends, within};
