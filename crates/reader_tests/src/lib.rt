@@ -14,4 +14,4 @@ mod repeats;
 #[cfg(test)]
 mod values;
 #[cfg(test)]
-mod words;
+mod wording;
