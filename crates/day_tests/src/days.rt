@@ -6,6 +6,7 @@ use std::test::*;
 // The units of the worked day: state 0 is on, state 1 is off.
 pub(crate) const FIRST: &str =
     "(steam (run 1 10) (rest 1 1 1) (start 0 0) (idle 0) (steps (10 5)) (was on 1))";
+
 pub(crate) const SECOND: &str =
     "(steam (run 4 4) (rest 1 1 1) (start 16 16) (idle 0) (steps (4 2)) (was off 1))";
 
@@ -21,7 +22,10 @@ const WORKED: &[(&str, Reply)] = &[
     ("(mix 0 2 (0 10))", Nothing),
     ("(mix 1 1 (0 4))", Nothing),
     ("(mix 1 1 (1 0))", Nothing),
-    ("(judge)", Text("(pay 0 2)\n(pay 1 0)\n(verdict least (uplift 2) (over 1) (gap 0) (weight 2))")),
+    (
+        "(judge)",
+        Text("(pay 0 2)\n(pay 1 0)\n(verdict least (uplift 2) (over 1) (gap 0) (weight 2))"),
+    ),
 ];
 
 // The same at 5 cents, asked before the runs and after the verdict.
@@ -38,7 +42,10 @@ const AT_FIVE: &[(&str, Reply)] = &[
     ("(mix 0 2 (0 10))", Nothing),
     ("(mix 1 1 (0 4))", Nothing),
     ("(mix 1 1 (1 0))", Nothing),
-    ("(judge)", Text("(pay 0 0)\n(pay 1 4)\n(verdict within (uplift 4) (over 1) (gap 4) (weight 2))")),
+    (
+        "(judge)",
+        Text("(pay 0 0)\n(pay 1 4)\n(verdict within (uplift 4) (over 1) (gap 4) (weight 2))"),
+    ),
     ("(supply 0)", Text("(supply 0 0 0 10)")),
     ("(show 0)", Text("(show 0 (0 1))")),
 ];
@@ -73,15 +80,24 @@ const JUDGES: &[(&str, Reply)] = &[
     ("(judge)", No("docket", 43, 1)),
     ("(mix 1 1 (0 4))", Nothing),
     ("(mix 1 1 (1 0))", Nothing),
-    ("(judge)", Text("(pay 0 4)\n(pay 1 0)\n(verdict least (uplift 4) (over 2) (gap 0) (weight 2))")),
+    (
+        "(judge)",
+        Text("(pay 0 4)\n(pay 1 0)\n(verdict least (uplift 4) (over 2) (gap 0) (weight 2))"),
+    ),
     ("(mix 1 1 (1 0))", No("docket", 29, 1)),
-    ("(judge)", Text("(pay 0 4)\n(pay 1 0)\n(verdict least (uplift 4) (over 2) (gap 0) (weight 2))")),
+    (
+        "(judge)",
+        Text("(pay 0 4)\n(pay 1 0)\n(verdict least (uplift 4) (over 2) (gap 0) (weight 2))"),
+    ),
 ];
 
 // Two periods on and two off at least, the one before the day counted.
 const TIMES: &[(&str, Reply)] = &[
     ("(day 4 1)", Nothing),
-    ("(steam (run 2 3) (rest 2 2 3) (start 10 30) (idle 1) (steps (2 5) (1 9)) (was off 1))", Nothing),
+    (
+        "(steam (run 2 3) (rest 2 2 3) (start 10 30) (idle 1) (steps (2 5) (1 9)) (was off 1))",
+        Nothing,
+    ),
     ("(need 0 2 2 0)", Nothing),
     ("(price 1 12 12 12 12)", Nothing),
     ("(show 0)", Text("(show 0 (3 0) (0 3) (1 3) (1 3))")),
@@ -89,13 +105,19 @@ const TIMES: &[(&str, Reply)] = &[
     ("(run 0 (3 0) (0 2) (2 0) (3 0))", No("docket", 27, 2)),
     ("(run 0 (3 0) (0 2) (1 2) (2 0))", Nothing),
     ("(mix 0 1 (3 0) (0 2) (1 2) (2 0))", Nothing),
-    ("(judge)", Text("(pay 0 22)\n(verdict within (uplift 22) (over 1) (gap 22) (weight 1))")),
+    (
+        "(judge)",
+        Text("(pay 0 22)\n(verdict within (uplift 22) (over 1) (gap 22) (weight 1))"),
+    ),
 ];
 
 // From 20 lots to 25 and not to 26, and from 25 not off.
 const RAMP: &[(&str, Reply)] = &[
     ("(day 2 1)", Nothing),
-    ("(ramp (run 20 30) (rate 5 24) (start 7) (idle 3) (steps (20 2) (10 4)) (was 20))", Nothing),
+    (
+        "(ramp (run 20 30) (rate 5 24) (start 7) (idle 3) (steps (20 2) (10 4)) (was 20))",
+        Nothing,
+    ),
     ("(buyer (steps (30 4)))", Nothing),
     ("(need 0 0)", Nothing),
     ("(price 1 4 4)", Nothing),
@@ -107,14 +129,23 @@ const RAMP: &[(&str, Reply)] = &[
     ("(run 1 (0 -25) (0 -26))", Nothing),
     ("(mix 0 1 (6 25) (7 26))", Nothing),
     ("(mix 1 1 (0 -25) (0 -26))", Nothing),
-    ("(judge)", Text("(pay 0 0)\n(pay 1 0)\n(verdict least (uplift 0) (over 1) (gap 0) (weight 1))")),
+    (
+        "(judge)",
+        Text("(pay 0 0)\n(pay 1 0)\n(verdict least (uplift 0) (over 1) (gap 0) (weight 1))"),
+    ),
 ];
 
 // A lake that rises by 10 for 13 lots, and a unit and a buyer that are each out for a period.
 const PUMPING: &[(&str, Reply)] = &[
     ("(day 2 1)", Nothing),
-    ("(lake (full 20) (flow 13 10) (wear 1) (was 10) (end 10))", Nothing),
-    ("(steam (run 13 13) (rest 1 1 1) (start 0 0) (idle 0) (steps (13 2)) (was on 1))", Nothing),
+    (
+        "(lake (full 20) (flow 13 10) (wear 1) (was 10) (end 10))",
+        Nothing,
+    ),
+    (
+        "(steam (run 13 13) (rest 1 1 1) (start 0 0) (idle 0) (steps (13 2)) (was on 1))",
+        Nothing,
+    ),
     ("(buyer (steps (10 8)))", Nothing),
     ("(out 1 1 1)", Nothing),
     ("(out 2 0 0)", Nothing),
@@ -126,13 +157,21 @@ const PUMPING: &[(&str, Reply)] = &[
     ("(mix 0 1 (20 -13) (10 10))", Nothing),
     ("(mix 1 1 (0 13) (1 0))", Nothing),
     ("(mix 2 1 (0 0) (0 -10))", Nothing),
-    ("(judge)", Text("(pay 0 0)\n(pay 1 0)\n(pay 2 0)\n(verdict least (uplift 0) (over 1) (gap 0) (weight 1))")),
+    (
+        "(judge)",
+        Text(
+            "(pay 0 0)\n(pay 1 0)\n(pay 2 0)\n(verdict least (uplift 0) (over 1) (gap 0) (weight 1))",
+        ),
+    ),
 ];
 
 // Two rises of 2 do not reach 5.
 const LAKE: &[(&str, Reply)] = &[
     ("(day 2 1)", Nothing),
-    ("(lake (full 10) (flow 2 2) (wear 0) (was 0) (end 5))", Nothing),
+    (
+        "(lake (full 10) (flow 2 2) (wear 0) (was 0) (end 5))",
+        Nothing,
+    ),
     ("(need 0 0)", Nothing),
     ("(price 1 0 0)", Nothing),
     ("(supply 0)", No("docket", 32, 0)),
@@ -145,7 +184,10 @@ const LAKE: &[(&str, Reply)] = &[
 const OUTAGE: &[(&str, Reply)] = &[
     ("(day 2 1)", Nothing),
     ("(out 0 0 0)", No("fleet", 14, 0)),
-    ("(steam (run 1 4) (rest 1 1 1) (start 3 3) (idle 0) (steps (4 1)) (was on 1))", Nothing),
+    (
+        "(steam (run 1 4) (rest 1 1 1) (start 3 3) (idle 0) (steps (4 1)) (was on 1))",
+        Nothing,
+    ),
     ("(out 0 1 0)", No("fleet", 14, 0)),
     ("(out 0 0 48)", No("fleet", 14, 0)),
     ("(out 1 0 0)", No("fleet", 14, 0)),
@@ -156,7 +198,10 @@ const OUTAGE: &[(&str, Reply)] = &[
     ("(run 0 (0 4) (0 4))", No("docket", 27, 1)),
     ("(run 0 (0 4) (1 0))", Nothing),
     ("(mix 0 1 (0 4) (1 0))", Nothing),
-    ("(judge)", Text("(pay 0 0)\n(verdict least (uplift 0) (over 1) (gap 0) (weight 1))")),
+    (
+        "(judge)",
+        Text("(pay 0 0)\n(verdict least (uplift 0) (over 1) (gap 0) (weight 1))"),
+    ),
 ];
 
 #[test]

@@ -12,12 +12,7 @@ pub(crate) enum Reply {
 }
 
 // The file is answered with this text.
-pub(crate) fn answered(
-    rt: &impl Abort,
-    heap: Global,
-    file: &[u8],
-    text: &str,
-) -> Result<(), Fail> {
+pub(crate) fn answered(rt: &impl Abort, heap: Global, file: &[u8], text: &str) -> Result<(), Fail> {
     let answer = day::settle(heap, file)?;
     assert_eq!(rt; answer.as_str(), text);
     Ok(())
@@ -64,7 +59,11 @@ pub(crate) fn declines(rt: &impl Abort, heap: Global, lines: &[Declined]) -> Res
 }
 
 // Each line, as a file of its own, is a form, which is out of place before a day.
-pub(crate) fn well_formed(rt: &impl Abort, heap: Global, lines: &[&'static str]) -> Result<(), Fail> {
+pub(crate) fn well_formed(
+    rt: &impl Abort,
+    heap: Global,
+    lines: &[&'static str],
+) -> Result<(), Fail> {
     for line in lines {
         answered(rt, heap, line.as_bytes(), "(no reader 9 1 1)\n")?;
     }

@@ -5,7 +5,13 @@ use std::process::Abort;
 use std::test::*;
 
 // A text of four parts, of which the second stands so many times; and what it is answered.
-type Made = (&'static str, &'static str, usize, &'static str, &'static str);
+type Made = (
+    &'static str,
+    &'static str,
+    usize,
+    &'static str,
+    &'static str,
+);
 
 fn all_answered(rt: &impl Abort, heap: Global, made: &[Made]) -> Result<(), Fail> {
     for (head, part, times, tail, text) in made {
@@ -21,7 +27,13 @@ const LINES: &[Made] = &[
     ("(day 1 2)", " ", 1_015, "", ""),
     ("(day 1 2)", " ", 1_016, "", "(no reader 2 1 1025)\n"),
     ("", " ", 1_024, "\n(judge)", "(no reader 9 2 1)\n"),
-    ("", " ", 1_025, "\n(judge)", "(no reader 2 1 1025)\n(no reader 9 2 1)\n"),
+    (
+        "",
+        " ",
+        1_025,
+        "\n(judge)",
+        "(no reader 2 1 1025)\n(no reader 9 2 1)\n",
+    ),
     ("", " ", 1_017, "(judge)", "(no reader 9 1 1)\n"),
     ("(judge", " ", 1_018, "", "(no reader 5 1 1025)\n"),
     ("(judge)", " ", 1_016, "\r", "(no reader 3 1 1024)\n"),
@@ -116,16 +128,25 @@ const BYTES: &[(&[u8], &str)] = &[
     (b"\n\n  \n", ""),
     (b" ", ""),
     (b"\0", "(no reader 3 1 1)\n"),
-    (b"(judge)\r\n(judge)\r\n\r\n", "(no reader 3 1 8)\n(no reader 3 2 8)\n(no reader 3 3 1)\n"),
+    (
+        b"(judge)\r\n(judge)\r\n\r\n",
+        "(no reader 3 1 8)\n(no reader 3 2 8)\n(no reader 3 3 1)\n",
+    ),
     (b"(judge)\r(judge)", "(no reader 3 1 8)\n"),
     (b"(judge)\x7f", "(no reader 3 1 8)\n"),
     (b"(judge)\x80", "(no reader 3 1 8)\n"),
     (b"\xff\n(judge)", "(no reader 3 1 1)\n(no reader 9 2 1)\n"),
     (b"(judge)\xa0\n", "(no reader 3 1 8)\n"),
-    (b"(judge)\n\n \n(judge)", "(no reader 9 1 1)\n(no reader 9 4 1)\n"),
+    (
+        b"(judge)\n\n \n(judge)",
+        "(no reader 9 1 1)\n(no reader 9 4 1)\n",
+    ),
     (b"(judge)\n\0", "(no reader 9 1 1)\n(no reader 3 2 1)\n"),
     (b"(judge)\x0b", "(no reader 3 1 8)\n"),
-    (b"(judge)\n(judge)\n", "(no reader 9 1 1)\n(no reader 9 2 1)\n"),
+    (
+        b"(judge)\n(judge)\n",
+        "(no reader 9 1 1)\n(no reader 9 2 1)\n",
+    ),
 ];
 
 #[test]

@@ -32,21 +32,81 @@ const STEAM: &[Declined] = &[
     ("(steam (run 1 10) (rest 1 1 1) (start 0 100000001)", 7, 41),
     ("(steam (run 1 10) (rest 1 1 1) (start 0 0) (idle )", 5, 50),
     ("(steam (run 1 10) (rest 1 1 1) (start 0 0) (idle x)", 6, 50),
-    ("(steam (run 1 10) (rest 1 1 1) (start 0 0) (idle -1)", 7, 50),
-    ("(steam (run 1 10) (rest 1 1 1) (start 0 0) (idle 100000001)", 7, 50),
-    ("(steam (run 1 10) (rest 1 1 1) (start 0 0) (idle 0 0)", 5, 52),
-    ("(steam (run 1 10) (rest 1 1 1) (start 0 0) (idle 0) (steps (10 5)) (steps", 5, 69),
-    ("(steam (run 1 10) (rest 1 1 1) (start 0 0) (idle 0) (steps (10 5)) (was 1)", 5, 73),
-    ("(steam (run 1 10) (rest 1 1 1) (start 0 0) (idle 0) (steps (10 5)) (was in 1)", 5, 73),
-    ("(steam (run 1 10) (rest 1 1 1) (start 0 0) (idle 0) (steps (10 5)) (was on )", 5, 76),
-    ("(steam (run 1 10) (rest 1 1 1) (start 0 0) (idle 0) (steps (10 5)) (was on x)", 6, 76),
-    ("(steam (run 1 10) (rest 1 1 1) (start 0 0) (idle 0) (steps (10 5)) (was on 0)", 7, 76),
-    ("(steam (run 1 10) (rest 1 1 1) (start 0 0) (idle 0) (steps (10 5)) (was on 49)", 7, 76),
-    ("(steam (run 1 10) (rest 1 1 1) (start 0 0) (idle 0) (steps (10 5)) (was off 0)", 7, 77),
-    ("(steam (run 1 10) (rest 1 1 1) (start 0 0) (idle 0) (steps (10 5)) (was off 49)", 7, 77),
-    ("(steam (run 1 10) (rest 1 1 1) (start 0 0) (idle 0) (steps (10 5)) (was off 1 1)", 5, 79),
-    ("(steam (run 1 10) (rest 1 1 1) (start 0 0) (idle 0) (steps (10 5)) (was on 1)", 5, 78),
-    ("(steam (run 1 10) (rest 1 1 1) (start 0 0) (idle 0) (steps (10 5)) (was on 1)) x", 5, 80),
+    (
+        "(steam (run 1 10) (rest 1 1 1) (start 0 0) (idle -1)",
+        7,
+        50,
+    ),
+    (
+        "(steam (run 1 10) (rest 1 1 1) (start 0 0) (idle 100000001)",
+        7,
+        50,
+    ),
+    (
+        "(steam (run 1 10) (rest 1 1 1) (start 0 0) (idle 0 0)",
+        5,
+        52,
+    ),
+    (
+        "(steam (run 1 10) (rest 1 1 1) (start 0 0) (idle 0) (steps (10 5)) (steps",
+        5,
+        69,
+    ),
+    (
+        "(steam (run 1 10) (rest 1 1 1) (start 0 0) (idle 0) (steps (10 5)) (was 1)",
+        5,
+        73,
+    ),
+    (
+        "(steam (run 1 10) (rest 1 1 1) (start 0 0) (idle 0) (steps (10 5)) (was in 1)",
+        5,
+        73,
+    ),
+    (
+        "(steam (run 1 10) (rest 1 1 1) (start 0 0) (idle 0) (steps (10 5)) (was on )",
+        5,
+        76,
+    ),
+    (
+        "(steam (run 1 10) (rest 1 1 1) (start 0 0) (idle 0) (steps (10 5)) (was on x)",
+        6,
+        76,
+    ),
+    (
+        "(steam (run 1 10) (rest 1 1 1) (start 0 0) (idle 0) (steps (10 5)) (was on 0)",
+        7,
+        76,
+    ),
+    (
+        "(steam (run 1 10) (rest 1 1 1) (start 0 0) (idle 0) (steps (10 5)) (was on 49)",
+        7,
+        76,
+    ),
+    (
+        "(steam (run 1 10) (rest 1 1 1) (start 0 0) (idle 0) (steps (10 5)) (was off 0)",
+        7,
+        77,
+    ),
+    (
+        "(steam (run 1 10) (rest 1 1 1) (start 0 0) (idle 0) (steps (10 5)) (was off 49)",
+        7,
+        77,
+    ),
+    (
+        "(steam (run 1 10) (rest 1 1 1) (start 0 0) (idle 0) (steps (10 5)) (was off 1 1)",
+        5,
+        79,
+    ),
+    (
+        "(steam (run 1 10) (rest 1 1 1) (start 0 0) (idle 0) (steps (10 5)) (was on 1)",
+        5,
+        78,
+    ),
+    (
+        "(steam (run 1 10) (rest 1 1 1) (start 0 0) (idle 0) (steps (10 5)) (was on 1)) x",
+        5,
+        80,
+    ),
 ];
 
 // (buyer (steps (Q P) ..)), and the prices that a buyer may not have.
@@ -72,8 +132,16 @@ const STEPS: &[Declined] = &[
     ("(buyer (steps (1 1) (1 1) (1 1) (1 1) x", 5, 39),
     ("(buyer (steps (1 1))", 5, 21),
     ("(buyer (steps (1 1)) (steps", 5, 22),
-    ("(steam (run 1 10) (rest 1 1 1) (start 0 0) (idle 0) (steps (10 500001))", 7, 64),
-    ("(steam (run 1 10) (rest 1 1 1) (start 0 0) (idle 0) (steps (10 -500001))", 7, 64),
+    (
+        "(steam (run 1 10) (rest 1 1 1) (start 0 0) (idle 0) (steps (10 500001))",
+        7,
+        64,
+    ),
+    (
+        "(steam (run 1 10) (rest 1 1 1) (start 0 0) (idle 0) (steps (10 -500001))",
+        7,
+        64,
+    ),
 ];
 
 // (ramp (run LO HI) (rate V B) (start S) (idle N) (steps (Q P) ..) (was A))
@@ -90,13 +158,41 @@ const RAMP: &[Declined] = &[
     ("(ramp (run 20 30) (rate 5 24) (start 7 7)", 5, 40),
     ("(ramp (run 20 30) (rate 5 24) (start 100000001)", 7, 38),
     ("(ramp (run 20 30) (rate 5 24) (start 7) (idle -1)", 7, 47),
-    ("(ramp (run 20 30) (rate 5 24) (start 7) (idle 3) (steps (20 2) (10 4)) (was on 1)", 6, 77),
-    ("(ramp (run 20 30) (rate 5 24) (start 7) (idle 3) (steps (20 2) (10 4)) (was )", 5, 77),
-    ("(ramp (run 20 30) (rate 5 24) (start 7) (idle 3) (steps (20 2) (10 4)) (was -1)", 7, 77),
-    ("(ramp (run 20 30) (rate 5 24) (start 7) (idle 3) (steps (20 2) (10 4)) (was 501)", 7, 77),
-    ("(ramp (run 20 30) (rate 5 24) (start 7) (idle 3) (steps (20 2) (10 4)) (was 20 1)", 5, 80),
-    ("(ramp (run 20 30) (rate 5 24) (start 7) (idle 3) (steps (20 2) (10 4)) (was 20)", 5, 80),
-    ("(ramp (run 20 30) (rate 5 24) (start 7) (idle 3) (steps (20 2) (10 4)) (was 20) (end 1))", 5, 81),
+    (
+        "(ramp (run 20 30) (rate 5 24) (start 7) (idle 3) (steps (20 2) (10 4)) (was on 1)",
+        6,
+        77,
+    ),
+    (
+        "(ramp (run 20 30) (rate 5 24) (start 7) (idle 3) (steps (20 2) (10 4)) (was )",
+        5,
+        77,
+    ),
+    (
+        "(ramp (run 20 30) (rate 5 24) (start 7) (idle 3) (steps (20 2) (10 4)) (was -1)",
+        7,
+        77,
+    ),
+    (
+        "(ramp (run 20 30) (rate 5 24) (start 7) (idle 3) (steps (20 2) (10 4)) (was 501)",
+        7,
+        77,
+    ),
+    (
+        "(ramp (run 20 30) (rate 5 24) (start 7) (idle 3) (steps (20 2) (10 4)) (was 20 1)",
+        5,
+        80,
+    ),
+    (
+        "(ramp (run 20 30) (rate 5 24) (start 7) (idle 3) (steps (20 2) (10 4)) (was 20)",
+        5,
+        80,
+    ),
+    (
+        "(ramp (run 20 30) (rate 5 24) (start 7) (idle 3) (steps (20 2) (10 4)) (was 20) (end 1))",
+        5,
+        81,
+    ),
 ];
 
 // (lake (full C) (flow G R) (wear Y) (was L) (end E))
@@ -115,7 +211,11 @@ const LAKE: &[Declined] = &[
     ("(lake (full 10) (flow 2 2) (wear 0) (end 0)", 5, 38),
     ("(lake (full 10) (flow 2 2) (wear 0) (was 80)", 7, 42),
     ("(lake (full 10) (flow 2 2) (wear 0) (was on 1)", 6, 42),
-    ("(lake (full 10) (flow 2 2) (wear 0) (was 0) (end 80)", 7, 50),
+    (
+        "(lake (full 10) (flow 2 2) (wear 0) (was 0) (end 80)",
+        7,
+        50,
+    ),
     ("(lake (full 10) (flow 2 2) (wear 0) (was 0))", 5, 44),
     ("(lake (full 10) (flow 2 2) (wear 0) (was 0) (end 5)", 5, 52),
 ];
@@ -138,17 +238,61 @@ const WIDEST: &[&str] = &[
 
 // Numbers that disagree, with all in their ranges.
 const DISAGREEING: &[Declined] = &[
-    ("(steam (run 2 1) (rest 1 1 1) (start 0 0) (idle 0) (steps (1 5)) (was on 1))", 8, 1),
-    ("(steam (run 1 10) (rest 1 2 1) (start 0 0) (idle 0) (steps (10 5)) (was on 1))", 8, 1),
-    ("(steam (run 1 10) (rest 1 1 1) (start 0 0) (idle 0) (steps (9 5)) (was on 1))", 8, 1),
-    ("(steam (run 1 10) (rest 1 1 1) (start 0 0) (idle 0) (steps (10 5) (1 5)) (was on 1))", 8, 1),
-    ("(steam (run 1 10) (rest 1 1 1) (start 0 0) (idle 0) (steps (500 5) (500 5) (500 5) (500 5)) (was on 1))", 8, 1),
-    ("(ramp (run 30 29) (rate 5 30) (start 0) (idle 0) (steps (29 1)) (was 0))", 8, 1),
-    ("(ramp (run 1 80) (rate 5 30) (start 0) (idle 0) (steps (80 1)) (was 0))", 8, 1),
-    ("(ramp (run 20 30) (rate 5 19) (start 0) (idle 0) (steps (30 1)) (was 0))", 8, 1),
-    ("(ramp (run 20 30) (rate 5 20) (start 0) (idle 0) (steps (30 1)) (was 19))", 8, 1),
-    ("(ramp (run 20 30) (rate 5 20) (start 0) (idle 0) (steps (30 1)) (was 31))", 8, 1),
-    ("(ramp (run 20 30) (rate 5 20) (start 0) (idle 0) (steps (20 1)) (was 20))", 8, 1),
+    (
+        "(steam (run 2 1) (rest 1 1 1) (start 0 0) (idle 0) (steps (1 5)) (was on 1))",
+        8,
+        1,
+    ),
+    (
+        "(steam (run 1 10) (rest 1 2 1) (start 0 0) (idle 0) (steps (10 5)) (was on 1))",
+        8,
+        1,
+    ),
+    (
+        "(steam (run 1 10) (rest 1 1 1) (start 0 0) (idle 0) (steps (9 5)) (was on 1))",
+        8,
+        1,
+    ),
+    (
+        "(steam (run 1 10) (rest 1 1 1) (start 0 0) (idle 0) (steps (10 5) (1 5)) (was on 1))",
+        8,
+        1,
+    ),
+    (
+        "(steam (run 1 10) (rest 1 1 1) (start 0 0) (idle 0) (steps (500 5) (500 5) (500 5) (500 5)) (was on 1))",
+        8,
+        1,
+    ),
+    (
+        "(ramp (run 30 29) (rate 5 30) (start 0) (idle 0) (steps (29 1)) (was 0))",
+        8,
+        1,
+    ),
+    (
+        "(ramp (run 1 80) (rate 5 30) (start 0) (idle 0) (steps (80 1)) (was 0))",
+        8,
+        1,
+    ),
+    (
+        "(ramp (run 20 30) (rate 5 19) (start 0) (idle 0) (steps (30 1)) (was 0))",
+        8,
+        1,
+    ),
+    (
+        "(ramp (run 20 30) (rate 5 20) (start 0) (idle 0) (steps (30 1)) (was 19))",
+        8,
+        1,
+    ),
+    (
+        "(ramp (run 20 30) (rate 5 20) (start 0) (idle 0) (steps (30 1)) (was 31))",
+        8,
+        1,
+    ),
+    (
+        "(ramp (run 20 30) (rate 5 20) (start 0) (idle 0) (steps (20 1)) (was 20))",
+        8,
+        1,
+    ),
     ("(lake (full 9) (flow 2 2) (wear 0) (was 10) (end 5))", 8, 1),
     ("(lake (full 9) (flow 2 2) (wear 0) (was 5) (end 10))", 8, 1),
     ("(buyer (steps (500 1) (1 1)))", 8, 1),
@@ -156,12 +300,27 @@ const DISAGREEING: &[Declined] = &[
 
 // The words come first, and then 8, at place 1 even where blanks stand first.
 const BEFORE_EIGHT: &[Declined] = &[
-    ("(lake (full 9) (flow 2 2) (wear 0) (was 10) (end 5)) x", 5, 54),
-    ("(lake (full 9) (flow 2 2) (wear 0) (was 10) (end 80))", 7, 50),
+    (
+        "(lake (full 9) (flow 2 2) (wear 0) (was 10) (end 5)) x",
+        5,
+        54,
+    ),
+    (
+        "(lake (full 9) (flow 2 2) (wear 0) (was 10) (end 80))",
+        7,
+        50,
+    ),
     ("(lake (full 9) (flow 2 2) (wear 0) (was 10) (end 5)", 5, 52),
 ];
 
-const AFTER_BLANKS: &[Declined] = &[("   (lake (full 9) (flow 2 2) (wear 0) (was 10) (end 5))", 8, 1), ("   (judge)", 9, 1)];
+const AFTER_BLANKS: &[Declined] = &[
+    (
+        "   (lake (full 9) (flow 2 2) (wear 0) (was 10) (end 5))",
+        8,
+        1,
+    ),
+    ("   (judge)", 9, 1),
+];
 
 #[test]
 fn steam_and_steps(rt: HostRuntime) -> Result<(), Fail> {

@@ -4,10 +4,12 @@ use crate::files::{Reply, settles};
 use std::test::*;
 
 const BUYER: &str = "(buyer (steps (5 3)))";
+
 const RAMP: &str = "(ramp (run 2 2) (rate 1 2) (start 0) (idle 0) (steps (2 1)) (was 0))";
+
 const LAKE: &str = "(lake (full 4) (flow 2 2) (wear 0) (was 2) (end 0))";
-const STEAM: &str =
-    "(steam (run 2 2) (rest 1 1 1) (start 0 0) (idle 0) (steps (2 1)) (was off 1))";
+
+const STEAM: &str = "(steam (run 2 2) (rest 1 1 1) (start 0 0) (idle 0) (steps (2 1)) (was off 1))";
 
 const OUT_OF_PLACE: Reply = No("reader", 9, 1);
 
@@ -63,7 +65,10 @@ const OPENED: &[(&str, Reply)] = &[
     (BUYER, OUT_OF_PLACE),
     ("(out 9 9 0)", OUT_OF_PLACE),
     ("(day 1 1)", OUT_OF_PLACE),
-    ("(lake (full 4) (flow 2 2) (wear 0) (was 5) (end 0))", No("reader", 8, 1)),
+    (
+        "(lake (full 4) (flow 2 2) (wear 0) (was 5) (end 0))",
+        No("reader", 8, 1),
+    ),
     ("(need -5)", No("docket", 21, 0)),
     ("(price 1 3)", Nothing),
     ("(supply 2)", Text("(supply 2 4 2 2)")),
