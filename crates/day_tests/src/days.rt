@@ -204,6 +204,41 @@ const OUTAGE: &[(&str, Reply)] = &[
     ),
 ];
 
+// A rise of 79 draws 103 lots.
+const DRAW: &[(&str, Reply)] = &[
+    ("(day 1 1)", Nothing),
+    (
+        "(lake (full 79) (flow 0 79) (wear 0) (was 0) (end 0))",
+        Nothing,
+    ),
+    ("(need -103)", Nothing),
+    ("(price 1 -1)", Nothing),
+    ("(run 0 (79 -102))", No("docket", 27, 0)),
+    ("(run 0 (79 -104))", No("docket", 27, 0)),
+    ("(run 0 (80 -104))", No("docket", 27, 0)),
+    ("(run 0 (79 -103))", Nothing),
+    ("(mix 0 1 (79 -103))", Nothing),
+    (
+        "(judge)",
+        Text("(pay 0 0)\n(verdict least (uplift 0) (over 1) (gap 0) (weight 1))"),
+    ),
+];
+
+// Outages that overlap: the unit is out in both.
+const UNION: &[(&str, Reply)] = &[
+    ("(day 4 1)", Nothing),
+    ("(buyer (steps (5 3)))", Nothing),
+    ("(out 0 1 2)", Nothing),
+    ("(out 0 0 1)", Nothing),
+    ("(need 0 0 0 -5)", Nothing),
+    ("(price 1 2 2 2 2)", Nothing),
+    ("(supply 0)", Text("(supply 0 5 -5 -5)")),
+    ("(show 0)", Text("(show 0 (0 0) (0 0) (0 0) (0 -5))")),
+    ("(run 0 (0 0) (0 0) (0 -1) (0 -5))", No("docket", 27, 2)),
+    ("(run 0 (0 0) (0 0) (0 0) (0 -4))", Nothing),
+    ("(judge)", No("docket", 42, 3)),
+];
+
 #[test]
 fn worked_days(rt: HostRuntime) -> Result<(), Fail> {
     settles(&rt, rt.alloc(), WORKED)?;
@@ -227,4 +262,10 @@ fn lakes_and_outages(rt: HostRuntime) -> Result<(), Fail> {
     settles(&rt, rt.alloc(), PUMPING)?;
     settles(&rt, rt.alloc(), LAKE)?;
     settles(&rt, rt.alloc(), OUTAGE)
+}
+
+#[test]
+fn draws_and_overlaps(rt: HostRuntime) -> Result<(), Fail> {
+    settles(&rt, rt.alloc(), DRAW)?;
+    settles(&rt, rt.alloc(), UNION)
 }
