@@ -3,3 +3,4 @@ mod Cuts
 mod Lasts
 mod Lines
 mod Opens
+mod Verdicts

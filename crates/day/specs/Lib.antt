@@ -5,3 +5,4 @@ pub mod Holding
 pub mod Lasting
 pub mod Said
 pub mod Settling
+pub mod Verdicts

@@ -10,4 +10,4 @@ mod session;
 mod settling;
 mod tables;
 
-pub use settling::settle;
+pub use settling::{LONGEST, settle};

@@ -3,12 +3,11 @@
 
 use std::io::Read;
 
-// One byte more than a file may have is enough to see that it is too long.
-const ENOUGH: u64 = 65_537;
-
 fn main(rt: HostRuntime) -> anyhow::Result<()> {
     let mut file = Vec::new(rt.alloc());
-    rt.stdin().take(ENOUGH).read_to_end(&mut file)?;
+    // One byte more than a file may have is enough to see that it is too long.
+    let enough = day::LONGEST as u64 + 1;
+    rt.stdin().take(enough).read_to_end(&mut file)?;
     let text = day::settle(rt.alloc(), &file)?;
     print!(rt; "{text}")?;
     Ok(())

@@ -257,8 +257,10 @@ pub edge_days : EdgeDays
 edge_days = record {
   at_six = at_six;
   least = (first_best_six, (second_best_six, (second_best_six, tt)));
+  says_least = λ old new r l j. (j.exactly refl l).so_least evidence_six (first_best_six, (second_best_six, (second_best_six, tt)));
   at_five = at_five;
   within = not_best;
+  says_within = λ old new r l j. (j.exactly refl l).so_within evidence_five not_best;
   miss = miss;
   supply_at_five = supply_five;
   show_at_five = show_five;

@@ -1,5 +1,5 @@
 -- The days at the edge. Assumes nothing.
-use Rattle.std.specs.Prelude.{◌≡◌, [], ◌∷◌, ℕ, ℤ, pos}
+use Rattle.std.specs.Prelude.{List, ◌≤◌, length, Result, ◌≡◌, [], ◌∷◌, ℕ, ℤ, pos}
 use Rattle.fleet.specs.Gains.{Supply, First}
 use Rattle.fleet.specs.Rows.{Fault}
 use Rattle.fleet.specs.Uplifts.{pay_of}
@@ -8,6 +8,11 @@ use Rattle.units.specs.LakeUnits.{drawn}
 use Rattle.settlement.specs.Ledger.{Ledger, judge, supply, ledger}
 use Rattle.settlement.specs.Evidence.{Evidence, AllBest, run_of, uplift_at, gap_at}
 use Rattle.settlement.specs.Reasons.{Declined}
+use Rattle.settlement.specs.declared.verdicts.Judgement.{Judgement}
+use Rattle.settlement.specs.declared.verdicts.Verdict.{Verdict}
+use Rattle.settlement.specs.declared.verdicts.Verdict.TheVariants.{Least, Within}
+use Rattle.settlement.specs.Verdicts.{Judges, SaysVerdict}
+use Rattle.terms.specs.declared.decline.Decline.{Decline}
 use Rattle.edge_days.specs.Days.{both, on, calls, never_off, day_at, ramping, filling, nothing_asked}
 
 abbrev pub at_place : ℕ → ℕ → Fault
@@ -22,13 +27,19 @@ pub record Settled (l : Ledger) (uplift gap first second : ℤ) : Type 0 where
   pub first_pay : pay_of (both.model 0) 1 l.prices (run_of l 0) ≡ first
   pub second_pay : pay_of (both.model 1) 1 l.prices (run_of l 1) ≡ second
 
+-- whatever judge answers there, it bears this verdict
+abbrev pub Judged : Ledger → Verdict → Type 0
+Judged l v = (old new : List ℤ) (r : Result Judgement Decline) → 2 ≤ length old → Judges both 1 2 l old new r → SaysVerdict v r
+
 pub record EdgeDays : Type 0 where
   -- at 6 cents every mix gains the best, so LEAST
   pub at_six : Settled (day_at 6) (pos 2) (pos 0) (pos 2) (pos 0)
   pub least : AllBest both 1 (day_at 6)
+  pub says_least : Judged (day_at 6) Least
   -- at 5 cents one does not, so WITHIN
   pub at_five : Settled (day_at 5) (pos 4) (pos 4) (pos 0) (pos 4)
   pub within : AllBest both 1 (day_at 5) → ⊥
+  pub says_within : Judged (day_at 5) Within
   -- unit 1 at 4 lots alone: the mixes bring 28 lots and not 24
   pub miss : Declined both 1 2 (ledger both 1 2 (calls 6 never_off)) (judge 2) (at_place 44 0)
   -- at 5 cents unit 0 gains 0 with 0 to 10 lots, and the first of these schedules in reading order is on with one lot

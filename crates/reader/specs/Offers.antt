@@ -71,6 +71,10 @@ fair_lake n =
     (between 1 79 n.full && (nat_le n.flow.fall 79 && nat_le n.flow.rise 79))
     && (nat_le n.wear 100000 && (nat_le n.was n.full && nat_le n.end n.full))
 
+-- a lake that never moves
+abbrev pub still_water : LakeNumbers
+still_water = record { full = 1; flow = record { fall = 0; rise = 0 }; wear = 0; was = 0; end = 0 }
+
 -- buyer --
 
 -- no lot has a negative price

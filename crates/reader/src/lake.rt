@@ -1,6 +1,6 @@
 // Lakes: a level that falls and rises.
 ghost use Rattle.std.specs.Prelude.{◌≡◌, true, false, MatchOption};
-ghost use Rattle.reader.specs.Offers.{fair_lake};
+ghost use Rattle.reader.specs.Offers.{fair_lake, still_water};
 
 use crate::numbers::{Flow, LakeNumbers};
 
@@ -39,6 +39,8 @@ impl Lake {
 
 // A lake that never moves.
 impl Default for Lake {
+    ghost is_default = { λ lake. lake.numbers ≡ still_water };
+
     fn default() -> Lake {
         Lake {
             numbers: LakeNumbers {

@@ -1,4 +1,6 @@
 // An offer of one of the four kinds.
+ghost use Rattle.reader.specs.OfferDefaults.{IsStill};
+
 use crate::buyer::Buyer;
 use crate::lake::Lake;
 use crate::ramp::Ramp;
@@ -14,6 +16,8 @@ pub enum Offer {
 
 // The default fills the places of a list that are not used.
 impl Default for Offer {
+    ghost is_default = { λ offer. IsStill offer };
+
     fn default() -> Offer {
         Offer::Lake(Lake::default())
     }

@@ -5,6 +5,7 @@ use Rattle.replies.specs.Texts.{no_text, reply_text}
 use Rattle.day.specs.Cutting.{lines_of}
 use Rattle.day.specs.Said.{nothing}
 use Rattle.day.specs.Settling.{Answered}
+use Rattle.day.proofs.Verdicts.{verdict_law}
 use Rattle.day.proofs.Lines.{Going, going_more, going_done}
 use Rattle.day.proofs.settling.settle.Goals as goal
 
@@ -30,5 +31,8 @@ returns c =
     let file = c.args.file.now in
     let none : length c.loop-rest.rest.now ≡ 0 = search rules in
     let text = string_bytes c.loop-rest.text in
-    subst (λ b. cond b (text ≡ no_text (record { cause = FileTooLong; place = 1 }) 1) (Answered (lines_of file) nothing 1 text)) (sym (le-ltb 65536 (length file) few))
-    (going_done file c.loop-rest.session c.loop-rest.rest.now c.loop-rest.line text i.0 none)
+    record {
+      verdicts = verdict_law;
+      text = subst (λ b. cond b (text ≡ no_text (record { cause = FileTooLong; place = 1 }) 1) (Answered (lines_of file) nothing 1 text)) (sym (le-ltb 65536 (length file) few))
+          (going_done file c.loop-rest.session c.loop-rest.rest.now c.loop-rest.line text i.0 none);
+    }
