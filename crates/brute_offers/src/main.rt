@@ -5,9 +5,9 @@
 mod draws;
 mod kinds;
 mod lists;
+mod lots;
 mod moving;
 mod paths;
-mod prices;
 mod rules;
 mod steam;
 mod trials;

@@ -1,7 +1,6 @@
 // The rules of ramp units and of lakes, in words.
-use crate::prices::price_of;
+use crate::lots::{price_of, puts_out};
 use crate::rules::draw;
-use crate::steam::puts_out;
 use reader::{LakeNumbers, RampNumbers, Rate};
 
 // How far the output may move where it is on at the other end, and where it is off.

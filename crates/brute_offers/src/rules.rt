@@ -1,7 +1,7 @@
 // What the rule of each kind says of a day's outputs, written of the outputs alone: their cost, or nothing where they
 // are not allowed.
+use crate::lots::price_of;
 use crate::moving::{lake_cost, ramp_cost};
-use crate::prices::price_of;
 use crate::steam::steam_cost;
 use reader::{Offer, Steps};
 

@@ -1,11 +1,6 @@
 // The rule of steam units, in words.
-use crate::prices::price_of;
-use reader::{Run, SteamNumbers, Was};
-
-// On puts out LO to HI, off nothing.
-pub(crate) fn puts_out(run: Run, output: i32) -> bool {
-    output == 0 || u32::try_from(output).is_ok_and(|lots| run.lo <= lots && lots <= run.hi)
-}
+use crate::lots::{price_of, puts_out};
+use reader::{SteamNumbers, Was};
 
 // Whether the unit was on so many periods before a period of the day, which may lie before the day; nothing is known
 // before the periods that it is offered with.

@@ -53,9 +53,13 @@ fn try_offer(
 }
 
 // As many drawn offers as a book has room for, each over a day of three or four periods.
-pub(crate) fn try_offers(heap: Global, draws: &mut Draws, kind: Kind) -> Result<Tally, AllocError> {
+fn try_book(
+    heap: Global,
+    draws: &mut Draws,
+    kind: Kind,
+    tally: &mut Tally,
+) -> Result<(), AllocError> {
     let mut book = Book::new();
-    let mut tally = Tally::default();
     for unit in 0..64 {
         let Some(offer) = kind.drawn(draws) else {
             break;
@@ -66,8 +70,17 @@ pub(crate) fn try_offers(heap: Global, draws: &mut Draws, kind: Kind) -> Result<
         let mut outputs = [0; 4];
         let periods = draws.periods(3, 4);
         if let Some(outputs) = outputs.get_mut(..periods) {
-            try_offer(heap, &book, unit, &offer, outputs, &mut tally)?;
+            try_offer(heap, &book, unit, &offer, outputs, tally)?;
         }
+    }
+    Ok(())
+}
+
+// Four books of offers of a kind.
+pub(crate) fn try_offers(heap: Global, draws: &mut Draws, kind: Kind) -> Result<Tally, AllocError> {
+    let mut tally = Tally::default();
+    for _ in 0..4 {
+        try_book(heap, draws, kind, &mut tally)?;
     }
     Ok(tally)
 }

@@ -7,34 +7,42 @@ use fleet::SLOTS;
 use offers::Book;
 use reader::{Offer, RampNumbers, Rate, Rest, Run, StartCosts, SteamNumbers, Steps, Was};
 use settlement::{Docket, Judgement, Verdict};
+use std::alloc::Global;
 use std::process::Abort;
 use std::test::*;
 use terms::{Decline, Entry};
 
-// Two units, each with its runs, and some mixes of them.
+// Periods of a schedule, each by its state and its lots.
+type Lots<'a> = &'a [(usize, i32)];
+
+// The needs, the run of each unit, and mixes of weight 10, each with its unit and weight.
 #[derive(Clone, Copy)]
 struct Day<'a> {
     needs: &'a [i32],
-    runs: [&'a [Entry]; 2],
-    weight: u32,
-    mixes: &'a [(usize, u32, &'a [Entry])],
+    runs: &'a [Lots<'a>],
+    mixes: &'a [(usize, u32, Lots<'a>)],
+}
+
+fn schedule(heap: Global, lots: Lots) -> Result<Vec<Entry>, Fail> {
+    let entries = lots.iter().map(|period| entry(period.0, period.1));
+    Ok(entries.collect(heap)?)
 }
 
 // The verdict, the uplift and the gap, and the side payments.
 type Settled = (Verdict, i64, i64, [i64; 2]);
 
-fn settled(book: Book, day: &Day, numerators: &[i32]) -> Result<Settled, Fail> {
+fn settled(heap: Global, book: Book, day: &Day, numerators: &[i32]) -> Result<Settled, Fail> {
     let mut table = [None; SLOTS];
     let mut pays = [0; 2];
-    let opened = Docket::open(book, day.needs.len(), day.weight);
+    let opened = Docket::open(book, day.needs.len(), 10);
     let mut docket = opened.map_err(|unopened| unopened.decline)?;
     docket.need(day.needs)?;
     docket.price(1, numerators)?;
     for (unit, run) in day.runs.iter().enumerate() {
-        docket.run(unit, run, &mut table)?;
+        docket.run(unit, &schedule(heap, run)?, &mut table)?;
     }
-    for (unit, weight, schedule) in day.mixes {
-        docket.mix(*unit, *weight, schedule)?;
+    for (unit, weight, mix) in day.mixes {
+        docket.mix(*unit, *weight, &schedule(heap, mix)?)?;
     }
     let judgement = docket.judge(&mut pays)?;
     Ok((judgement.verdict, judgement.uplift, judgement.gap, pays))
@@ -60,31 +68,17 @@ fn starting(run: Run, price: i32) -> Result<Offer, Fail> {
     Ok(steam(numbers)?)
 }
 
-const OFF: [Entry; 1] = [Entry {
-    state: 1,
-    output: 0,
-}];
-
-const SEVEN: [Entry; 1] = [Entry {
-    state: 0,
-    output: 7,
-}];
-
-const TEN: [Entry; 1] = [Entry {
-    state: 0,
-    output: 10,
-}];
+// State 0 is on, state 1 off.
+const BLOCK: Day<'static> = Day {
+    needs: &[7],
+    runs: &[&[(0, 7)], &[(1, 0)]],
+    mixes: &[(0, 10, &[(1, 0)]), (1, 7, &[(0, 10)]), (1, 3, &[(1, 0)])],
+};
 
 // 35 MW, by a unit of 10 to 50 MW at 50 dollars a MWh; a block of 50 MW at 10 dollars stays off. The prices are 50, 12
 // and 52 dollars. At 12 the evidence is that the block runs for 7 of 10 weights, so that no prices have less uplift.
 #[test]
 fn block_unit(rt: HostRuntime) -> Result<(), Fail> {
-    let day = Day {
-        needs: &[7],
-        runs: [&SEVEN, &OFF],
-        weight: 10,
-        mixes: &[(0, 10, &OFF), (1, 7, &TEN), (1, 3, &OFF)],
-    };
     for (price, says) in [
         (
             25_000,
@@ -99,7 +93,11 @@ fn block_unit(rt: HostRuntime) -> Result<(), Fail> {
         let first = starting(Run { lo: 2, hi: 10 }, 25_000)?;
         let block = starting(Run { lo: 10, hi: 10 }, 5_000)?;
         let book = book(&[first, block])?;
-        assert_eq!(rt; settled(book, &day, &[price])?, says, "at {price}");
+        assert_eq!(rt;
+            settled(rt.alloc(), book, &BLOCK, &[price])?,
+            says,
+            "at {price}"
+        );
     }
     Ok(())
 }
@@ -120,34 +118,30 @@ fn moving(rate: u32, idle: u32, price: i32) -> Result<Offer, Fail> {
     Ok(ramp(numbers)?)
 }
 
-// Of these units, a state is the output.
-fn at(lots: u8) -> Entry {
-    entry(usize::from(lots), i32::from(lots))
-}
+// A state is the lots.
+const RAMPING: Day<'static> = Day {
+    needs: &[14, 20, 34],
+    runs: &[&[(14, 14), (8, 8), (14, 14)], &[(0, 0), (12, 12), (20, 20)]],
+    mixes: &[
+        (0, 4, &[(14, 14), (11, 11), (20, 20)]),
+        (0, 6, &[(14, 14), (12, 12), (20, 20)]),
+        (1, 7, &[(0, 0), (12, 12), (20, 20)]),
+        (1, 3, &[(0, 0), (0, 0), (0, 0)]),
+    ],
+};
 
 // 70, 100 and 170 MW, by a unit at 60 dollars a MWh that moves by 120 MW an hour, and one at 56 dollars and 600 for an
 // hour on that moves by 60 MW: it has to start in the second hour to be at 100 MW in the third. The prices of the third
 // hour are 60, 64 and 65.6 dollars. At the last the evidence is that the second unit runs for 7 of 10 weights.
 #[test]
 fn ramping_units(rt: HostRuntime) -> Result<(), Fail> {
-    let day = Day {
-        needs: &[14, 20, 34],
-        runs: [&[at(14), at(8), at(14)], &[at(0), at(12), at(20)]],
-        weight: 10,
-        mixes: &[
-            (0, 4, &[at(14), at(11), at(20)]),
-            (0, 6, &[at(14), at(12), at(20)]),
-            (1, 7, &[at(0), at(12), at(20)]),
-            (1, 3, &[at(0), at(0), at(0)]),
-        ],
-    };
     for (price, says) in [
         (30_000, (Verdict::Within, 56_000, 392_000, [0, 56_000])),
         (32_000, (Verdict::Within, 28_000, 112_000, [12_000, 16_000])),
         (32_800, (Verdict::Least, 16_800, 0, [16_800, 0])),
     ] {
         let book = book(&[moving(24, 0, 30_000)?, moving(12, 60_000, 28_000)?])?;
-        let answer = settled(book, &day, &[30_000, 30_000, price])?;
+        let answer = settled(rt.alloc(), book, &RAMPING, &[30_000, 30_000, price])?;
         assert_eq!(rt; answer, says, "at {price}");
     }
     Ok(())

@@ -1,5 +1,10 @@
-// What lots cost by steps.
-use reader::Steps;
+// Lots: those that a unit may put out, and what they cost by steps.
+use reader::{Run, Steps};
+
+// On puts out LO to HI, off nothing.
+pub(crate) fn puts_out(run: Run, output: i32) -> bool {
+    output == 0 || u32::try_from(output).is_ok_and(|lots| run.lo <= lots && lots <= run.hi)
+}
 
 // The price of the next lot after so many.
 fn price_after(steps: &Steps, lots: u32) -> i64 {
