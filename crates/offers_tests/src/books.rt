@@ -1,11 +1,10 @@
 // The offer book as a fleet, and under outages.
-use crate::samples::{LAKE, book, entry, lake, ramp, ramp_numbers, steam, steam_numbers, step};
+use crate::samples::{LAKE, book, lake, ramp, ramp_numbers, steam, steam_numbers, step};
 use decline_numbers::said;
 use fleet::{Fleet, Range};
 use fleet_kinds::{Outage, Outages};
 use offers::Book;
 use reader::{Buyer, LakeNumbers, Offer, RampNumbers, SteamNumbers, Steps, Was};
-use std::process::Abort;
 use std::test::*;
 
 fn buyer() -> Result<Offer, &'static str> {

@@ -1,13 +1,11 @@
 // Days at the edge, over an offer book.
 use crate::samples::{book, entry, lake, steam, step};
-use decline_numbers::{Said, numbered, said};
+use decline_numbers::said;
 use fleet::{Periods, PriceRow, SLOTS, best_gain};
 use offers::Book;
 use reader::{Flow, LakeNumbers, Offer, Rest, Run, StartCosts, SteamNumbers, Steps, Was};
-use settlement::{Docket, Judgement, Verdict};
-use std::process::Abort;
+use settlement::{Docket, Verdict};
 use std::test::*;
-use terms::{Decline, Entry};
 
 // A unit that may go on and off in every period.
 fn free(run: Run, start: u32, price: i32, was: Was) -> Result<Offer, Fail> {
@@ -78,8 +76,8 @@ fn missed_need(rt: HostRuntime) -> Result<(), Fail> {
     Ok(())
 }
 
-// At the price of its lots, every schedule of the first unit gains nothing; off comes second in reading order, since on
-// is state 0.
+// At the price of its lots, every schedule of the first unit gains nothing; the first in reading order is on with 1 lot,
+// since on is state 0.
 #[test]
 fn at_the_margin(rt: HostRuntime) -> Result<(), Fail> {
     let docket = worked(5)?;

@@ -3,10 +3,7 @@ use crate::samples::{
     LAKE, book, cost, entry, lake, ramp, ramp_numbers, steam, steam_numbers, step,
 };
 use fleet::{Fleet, Range};
-use reader::{
-    Buyer, Flow, LakeNumbers, Offer, RampNumbers, Rate, Rest, Run, SteamNumbers, Steps, Was,
-};
-use std::process::Abort;
+use reader::{Buyer, Flow, LakeNumbers, Offer, RampNumbers, Rate, Run, SteamNumbers, Steps, Was};
 use std::test::*;
 use terms::Entry;
 
@@ -47,8 +44,8 @@ fn minimum_times(rt: HostRuntime) -> Result<(), Fail> {
         (Was::On(2), &[OFF_1], Ok(0)),
         (Was::Off(1), &[ON_1], Err((27, 0))),
         (Was::Off(1), &[OFF_2, ON_1], Ok(123)),
-        (Was::Off(2), &[ON_1], Ok(123)),
         // A run that lasts to the end of the day may be short.
+        (Was::Off(2), &[ON_1], Ok(123)),
         (Was::Off(2), &[ON_1, OFF_1], Err((27, 1))),
         (Was::Off(2), &[ON_1, ON_2, OFF_1], Ok(146)),
         (Was::On(2), &[OFF_1, ON_1], Err((27, 1))),
@@ -115,12 +112,12 @@ fn at(lots: i32) -> Entry {
 fn ramps(rt: HostRuntime) -> Result<(), Fail> {
     let plain = ramp_numbers().ok_or("no steps")?;
     for (was, first, second, says) in [
-        (0, 6, 9, Ok(236 - 100 + 12 - 3)),
+        (0, 6, 9, Ok(145)),
         (0, 7, 7, Err((27, 0))),
         (0, 6, 10, Err((27, 1))),
-        (4, 7, 10, Ok(26 + 5)),
+        (4, 7, 10, Ok(31)),
         (4, 8, 8, Err((27, 0))),
-        (10, 7, 4, Ok(26 + 23)),
+        (10, 7, 4, Ok(49)),
         (10, 6, 6, Err((27, 0))),
         (10, 0, 0, Err((27, 0))),
         (6, 0, 6, Ok(133)),

@@ -1,10 +1,9 @@
 // Which numbers make an offer: each range at its ends and just past them, and each relation of two numbers.
-use crate::samples::{LAKE, ramp_numbers, steam_numbers, step};
+use crate::samples::{ramp_numbers, steam_numbers, step};
 use reader::{
-    Buyer, Flow, Lake, LakeNumbers, Offer, Ramp, RampNumbers, Rate, Rest, Run, StartCosts, Steam,
-    SteamNumbers, Step, Steps, Was,
+    Buyer, Flow, Lake, LakeNumbers, Ramp, RampNumbers, Rate, Rest, Run, StartCosts, Steam,
+    SteamNumbers, Steps, Was,
 };
-use std::process::Abort;
 use std::test::*;
 
 #[test]

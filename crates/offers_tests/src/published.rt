@@ -2,15 +2,13 @@
 // and money is in cents, so 10 MW are 2 lots, a dollar for a MWh is 500 cents for a lot, and all numbers are exact. A
 // unit that is published without a lowest output has 1 lot here: at none it is off, which costs no more.
 use crate::samples::{book, entry, ramp, steam, step};
-use decline_numbers::numbered;
 use fleet::SLOTS;
 use offers::Book;
 use reader::{Offer, RampNumbers, Rate, Rest, Run, StartCosts, SteamNumbers, Steps, Was};
-use settlement::{Docket, Judgement, Verdict};
+use settlement::{Docket, Verdict};
 use std::alloc::Global;
-use std::process::Abort;
 use std::test::*;
-use terms::{Decline, Entry};
+use terms::Entry;
 
 // Periods of a schedule, each by its state and its lots.
 type Lots<'a> = &'a [(usize, i32)];
