@@ -13,8 +13,8 @@ mod forms;
 #[cfg(test)]
 mod limits;
 #[cfg(test)]
-mod offers;
+mod line_words;
+#[cfg(test)]
+mod offer_lines;
 #[cfg(test)]
 mod places;
-#[cfg(test)]
-mod words;
