@@ -7,7 +7,7 @@ use Rattle.words.specs.Classes.{fault_of}
 use Rattle.words.specs.Lines.{Word, texts}
 use Rattle.words.specs.Grammar.{State, Answer, got, no, bind, first, past, word, end, ends, open_text}
 use Rattle.words.specs.Shapes.{read, words_of, Fits}
-use Rattle.words.proofs.Readings.{never, got_same, chain, join, bytes_same, Passed, passes, standing, word_only, word_always, end_only, end_always, ends_only, ends_always}
+use Rattle.words.proofs.ReaderFacts.{never, got_same, chain, join, bytes_same, Passed, passes, standing, word_only, word_always, end_only, end_always, ends_only, ends_always}
 use Rattle.reader.specs.declared.names.FormName.{FormName}
 use Rattle.reader.specs.declared.names.FormName.TheVariants as name
 use Rattle.reader.specs.declared.form.Form.{Form}

@@ -6,7 +6,7 @@ use Rattle.words.specs.Grammar.{State, bind, got, end}
 use Rattle.words.specs.Shapes.{read, Fits}
 use Rattle.words.specs.Answers.{answer_by}
 use Rattle.words.specs.Seen.{state_of}
-use Rattle.words.proofs.Readings.{join}
+use Rattle.words.proofs.ReaderFacts.{join}
 use Rattle.reader.specs.declared.names.FormName.{FormName}
 use Rattle.reader.specs.declared.offer.Offer.{Offer}
 use Rattle.reader.specs.OfferMade.{OfferIs, checked}

@@ -11,7 +11,7 @@ use Rattle.words.specs.Numerals.{value_of}
 use Rattle.words.specs.Grammar.{State, Answer, got, bind, give, past, word, within, number, stands, up_to, close_text}
 use Rattle.words.specs.Shapes.{Shape, nothing, natural, whole, after, ended, both, many, either, put, read, words_of, words_of_each, Fits, EachFits}
 use Rattle.words.specs.Laws.{opens, TenDigits, Sound, Took, Law}
-use Rattle.words.proofs.Readings.{got_same, chain, join, same_bytes, word_only, word_always, number_only, number_always, stands_only, stands_always, one_word}
+use Rattle.words.proofs.ReaderFacts.{got_same, chain, join, same_bytes, word_only, word_always, number_only, number_always, stands_only, stands_always, one_word}
 
 pub within_parts : (lo hi z : ℤ) → within lo hi z ≡ true → (lo ≤ℤ z) × (z ≤ℤ hi)
 within_parts lo hi z e = let p = and_parts (int_le lo z) (int_le z hi) e in (test_le lo z p.0, test_le z hi p.1)

@@ -2,6 +2,6 @@ pub mod Scans
 pub mod Cuts
 pub mod Numbers
 pub mod Decimals
-pub mod Readings
+pub mod ReaderFacts
 pub mod Laws
 pub mod Repeats
