@@ -5,3 +5,5 @@ mod Fairness
 mod OfferForms
 mod Named
 mod Exactly
+mod OneOffer
+mod OneReading

@@ -35,3 +35,7 @@ pub record ReadsExactly (line : List ℕ) (r : Result (Option Form) Decline) : T
   pub so_form : (l : Line) → IsLineOf line l → told_of r ≡ says l
   pub nothing : told_of r ≡ blank → IsBlank line
   pub so_nothing : IsBlank line → told_of r ≡ blank
+
+-- what is told of a reading leaves nothing of it open
+abbrev pub ToldLaw : Type 0
+ToldLaw = (r s : Result (Option Form) Decline) → told_of r ≡ told_of s → r ≡ s

@@ -14,3 +14,4 @@ pub mod Opens
 pub mod UnitCalls
 pub mod Judging
 pub mod Questions
+pub mod OneAnswer

@@ -9,3 +9,4 @@ pub mod Weighing
 pub mod Follow
 pub mod Calls
 pub mod Words
+pub mod OneAnswers

@@ -3,3 +3,4 @@ pub mod Bounds
 pub mod Sums
 pub mod Places
 pub mod Says
+pub mod Causes
