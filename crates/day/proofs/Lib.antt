@@ -4,3 +4,4 @@ mod Lasts
 mod Lines
 mod Opens
 mod Verdicts
+pub mod OneText

@@ -29,3 +29,7 @@ Answered (line ∷ lines) s n text = LineOf line s n text (λ after rest. Answer
 abbrev pub Settled : List ℕ → List ℕ → Type 0
 Settled file text =
     cond (nat_lt 65536 (length file)) (text ≡ no_text (record { cause = FileTooLong; place = 1 }) 1) (Answered (lines_of file) nothing 1 text)
+
+-- a file has one text
+abbrev pub OneTextLaw : Type 0
+OneTextLaw = (file t u : List ℕ) → Settled file t → Settled file u → t ≡ u

@@ -1,6 +1,6 @@
 // A whole file.
 ghost use Rattle.std.specs.Prelude.{IfOk, string_bytes};
-ghost use Rattle.day.specs.Settling.{Settled};
+ghost use Rattle.day.specs.Settling.{Settled, OneTextLaw};
 ghost use Rattle.day.specs.Verdicts.{VerdictLaw};
 
 use crate::cutting::cut;
@@ -14,11 +14,12 @@ use terms::Cause;
 // The longest file that is read.
 pub const LONGEST: usize = 65_536;
 
-// The text that a file is answered with, each line by its reply, and every verdict in it binds every price row. The error
-// is the allocator's, for want of memory for the text. Over 65,536 bytes it is declined with 1, and nothing else is read.
-#[tactic(auto, using(crate::proofs::Verdicts::verdict_law))]
+// The one text that a file is answered with, each line by its reply, and every verdict in it binds every price row. The
+// error is the allocator's, for want of memory for the text. Over 65,536 bytes it is declined with 1, and nothing else is read.
+#[tactic(auto, using(crate::proofs::Verdicts::verdict_law, crate::proofs::OneText::one_text))]
 pub fn settle(alloc: Global, file: &[u8]) -> Result<String, AllocError>
     ensures text { IfOk result (λ text. Settled file.now (string_bytes text)) }
+    ensures one { OneTextLaw }
     ensures verdicts { VerdictLaw }
 {
     if file.len() > LONGEST {

@@ -6,4 +6,4 @@ mod OfferForms
 mod Named
 mod Exactly
 mod OneOffer
-mod OneReading
+pub mod OneReading
