@@ -1,1 +1,2 @@
 mod Stand
+mod Prints

@@ -54,7 +54,7 @@ second_five = refl
 is_best : (p : UnitModel) (r : Prices) (g : ℤ) → SoundUnit p → best_gain p 1 r ≡ Some g → BestGain p 1 r g
 is_best p r g s e = subst (IsBest p 1 r) e (best_gain_law p s 1 r)
 
-first_best_six : BestGain (both.model 0) 1 (prices 6) (pos 10)
+pub first_best_six : BestGain (both.model 0) 1 (prices 6) (pos 10)
 first_best_six = is_best (both.model 0) (prices 6) (pos 10) (offer_sound (Steam first)) first_six
 
 second_best_six : BestGain (both.model 1) 1 (prices 6) (pos 0)
@@ -86,13 +86,16 @@ between (e ∷ []) s =
     (omega (arith, ints), omega (arith, ints))
 between (e ∷ f ∷ es) s = let l = s.long in absurd (omega arith)
 
-gains_on : (lots : ℕ) → gain_of (both.model 0) (prices 5) (on lots) ≡ pos 0 → Allowed (both.model 0) (on lots) → Gains (both.model 0) 1 (prices 5) (pos 0) (on lots)
+pub gains_on : (lots : ℕ) → gain_of (both.model 0) (prices 5) (on lots) ≡ pos 0 → Allowed (both.model 0) (on lots) → Gains (both.model 0) 1 (prices 5) (pos 0) (on lots)
 gains_on lots e a = record { scheduled = record { long = refl; allowed = a }; gains = e }
 
 gains_off : Gains (both.model 0) 1 (prices 5) (pos 0) off
 gains_off = record { scheduled = record { long = refl; allowed = (refl, refl) }; gains = refl }
 
-supply_five : Supply (both.model 0) 1 (prices 5) (pos 0, pos 0, pos 10)
+pub ten : Gains (both.model 0) 1 (prices 5) (pos 0) (on 10)
+ten = gains_on 10 refl (refl, refl)
+
+pub supply_five : Supply (both.model 0) 1 (prices 5) (pos 0, pos 0, pos 10)
 supply_five = record {
   best = first_best_five;
   few = off;
@@ -122,7 +125,7 @@ earliest [] s p = p
 earliest (y ∷ []) s p = first_on y s.allowed.0 p
 earliest (y ∷ z ∷ ys) s p = let l = s.long in absurd (omega arith)
 
-show_five : First (both.model 0) 1 (prices 5) (on 1)
+pub show_five : First (both.model 0) 1 (prices 5) (on 1)
 show_five = record {
   gain = pos 0;
   best = first_best_five;
@@ -162,22 +165,22 @@ too_empty = inr (refl, inr (λ p h. no_schedule h.1.1.best.by h.1.1.best.attaine
 
 -- the evidence --
 
-both_units : (P : ℕ → Type 0) → P 0 → P 1 → (u : ℕ) → u < 2 → P u
+pub both_units : (P : ℕ → Type 0) → P 0 → P 1 → (u : ℕ) → u < 2 → P u
 both_units P a b zero l = a
 both_units P a b (suc zero) l = b
 both_units P a b (suc (suc u)) l = absurd (omega arith)
 
-one_period : (P : ℕ → Type 0) → P 0 → (t : ℕ) → t < 1 → P t
+pub one_period : (P : ℕ → Type 0) → P 0 → (t : ℕ) → t < 1 → P t
 one_period P a zero l = a
 one_period P a (suc t) l = absurd (omega arith)
 
-both_sound : Sound both
+pub both_sound : Sound both
 both_sound = book_sound (Steam first ∷ Steam second ∷ []) (omega arith)
 
-abbrev short : Ledger
+abbrev pub short : Ledger
 short = ledger both 1 2 (calls 6 never_off)
 
-none_wrong : (cs : List Call) → Evidence both 1 2 (ledger both 1 2 cs) → held_back both 1 2 (ledger both 1 2 cs) (judge 2) ≡ None → (f : Fault) → wrong both 1 2 (ledger both 1 2 cs) (judge 2) f → ⊥
+pub none_wrong : (cs : List Call) → Evidence both 1 2 (ledger both 1 2 cs) → held_back both 1 2 (ledger both 1 2 cs) (judge 2) ≡ None → (f : Fault) → wrong both 1 2 (ledger both 1 2 cs) (judge 2) f → ⊥
 none_wrong cs e h f (inl x) = never_31 both both_sound 1 2 (omega arith) cs (judge 2) f (inr (h, inl x)) x.0
 none_wrong cs e h f (inr (a, inl x)) = none_fails e.ran f.place x.1
 none_wrong cs e h f (inr (a, inr (b, inl x))) = none_fails e.runs_meet f.place x.1
@@ -189,7 +192,7 @@ none_wrong cs e h f (inr (a, inr (b, inr (c, inr (d, inr x))))) = x.1
 nothing_wrong : (cs : List Call) → Evidence both 1 2 (ledger both 1 2 cs) → held_back both 1 2 (ledger both 1 2 cs) (judge 2) ≡ None → (f : Fault) → Declined both 1 2 (ledger both 1 2 cs) (judge 2) f → ⊥
 nothing_wrong cs e h f d = no_fault both 1 2 (ledger both 1 2 cs) (judge 2) h (none_wrong cs e h) f d
 
-evidence_six : Evidence both 1 2 (day_at 6)
+pub evidence_six : Evidence both 1 2 (day_at 6)
 evidence_six = record {
   ran = both_units _ refl refl;
   runs_meet = one_period _ refl;
@@ -197,7 +200,7 @@ evidence_six = record {
   mixes_meet = one_period _ refl;
 }
 
-evidence_five : Evidence both 1 2 (day_at 5)
+pub evidence_five : Evidence both 1 2 (day_at 5)
 evidence_five = record {
   ran = both_units _ refl refl;
   runs_meet = one_period _ refl;
@@ -205,7 +208,7 @@ evidence_five = record {
   mixes_meet = one_period _ refl;
 }
 
-at_six : Settled (day_at 6) (pos 2) (pos 0) (pos 2) (pos 0)
+pub at_six : Settled (day_at 6) (pos 2) (pos 0) (pos 2) (pos 0)
 unfolding best_from greatest
 at_six = record {
   evidence = evidence_six;
@@ -216,7 +219,7 @@ at_six = record {
   second_pay = refl;
 }
 
-at_five : Settled (day_at 5) (pos 4) (pos 4) (pos 0) (pos 4)
+pub at_five : Settled (day_at 5) (pos 4) (pos 4) (pos 0) (pos 4)
 unfolding best_from greatest
 at_five = record {
   evidence = evidence_five;
@@ -228,18 +231,18 @@ at_five = record {
 }
 
 -- 4 lots gain -4 there, and off gains 0
-not_best : AllBest both 1 (day_at 5) → ⊥
+pub not_best : AllBest both 1 (day_at 5) → ⊥
 not_best a = let e = best_unique (both.model 1) 1 (prices 5) _ _ a.1.0 second_best_five in absurd (omega (arith, ints, e))
 
 -- 28 lots are not 24
-missed : FirstNot 1 (MixesMeet 2 short) 0
+pub missed : FirstNot 1 (MixesMeet 2 short) 0
 missed = record { below = omega arith; fails = λ e. absurd (omega (arith, ints, e)); before = λ i l. absurd (omega arith) }
 
-miss : Declined both 1 2 short (judge 2) (at_place 44 0)
-miss = inr (
-  refl,
+pub miss : (room : ℕ) → held_back both 1 2 short (judge room) ≡ None → Declined both 1 2 short (judge room) (at_place 44 0)
+miss room held = inr (
+  held,
   inr (
-    λ p h. never_31 both both_sound 1 2 (omega arith) (calls 6 never_off) (judge 2) (at_place 31 0) (inr (refl, inl (refl, (refl, h.1)))) refl,
+    λ p h. never_31 both both_sound 1 2 (omega arith) (calls 6 never_off) (judge room) (at_place 31 0) (inr (held, inl (refl, (refl, h.1)))) refl,
     inr (
       none_fails (both_units (Ran short) refl refl),
       inr (
@@ -261,7 +264,7 @@ edge_days = record {
   at_five = at_five;
   within = not_best;
   says_within = λ old new r l j. (j.exactly refl l).so_within evidence_five not_best;
-  miss = miss;
+  miss = miss 2 refl;
   supply_at_five = supply_five;
   show_at_five = show_five;
   draw_ten = refl;

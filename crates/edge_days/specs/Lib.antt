@@ -1,2 +1,3 @@
 pub mod Days
 pub mod EdgeDays
+pub mod Files
