@@ -5,3 +5,4 @@ mod Lines
 mod Opens
 mod Verdicts
 pub mod OneText
+mod Enough

@@ -1,4 +1,5 @@
 -- A whole file and the text that it is answered with. Assumes nothing.
+use Rattle.std.specs.Io.KnownBytes.{Appends}
 use Rattle.std.specs.Prelude.{◌≡◌, ℕ, ◌+◌, List, [], ◌∷◌, ◌++◌, length, Option, Result, cond, nat_lt}
 use Rattle.terms.specs.declared.decline.Decline.{Decline}
 use Rattle.terms.specs.declared.decline.Cause.TheVariants.{FileTooLong}
@@ -33,3 +34,7 @@ Settled file text =
 -- a file has one text
 abbrev pub OneTextLaw : Type 0
 OneTextLaw = (file t u : List ℕ) → Settled file t → Settled file u → t ≡ u
+
+-- a writer that held these bytes holds the text of the file after them
+abbrev pub WritesText : List ℕ → Option (List ℕ) → Option (List ℕ) → Type 0
+WritesText file old new = (text : List ℕ) × Settled file text × Appends old new text

@@ -6,8 +6,10 @@ mod cutting;
 mod known;
 mod lining;
 mod open;
+mod reading;
 mod session;
 mod settling;
 mod tables;
 
+pub use reading::answer_file;
 pub use settling::{LONGEST, settle};

@@ -11,10 +11,13 @@ pub(crate) enum Reply {
     Text(&'static str),
 }
 
-// The file is answered with this text.
+// The file is answered with this text, as bytes at hand and as they are read and written.
 pub(crate) fn answered(rt: &impl Abort, heap: Global, file: &[u8], text: &str) -> Result<(), Fail> {
     let answer = day::settle(heap, file)?;
     assert_eq!(rt; answer.as_str(), text);
+    let mut written = Vec::new(heap);
+    day::answer_file(heap, file, &mut written)?;
+    assert_eq!(rt; written.as_slice(), text.as_bytes());
     Ok(())
 }
 

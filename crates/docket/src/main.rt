@@ -1,14 +1,8 @@
 // The settlement program: a day file on standard input, its replies on standard output.
 #![tactic(auto)]
 
-use std::io::Read;
+use std::io;
 
-fn main(rt: HostRuntime) -> anyhow::Result<()> {
-    let mut file = Vec::new(rt.alloc());
-    // One byte more than a file may have is enough to see that it is too long.
-    let enough = day::LONGEST as u64 + 1;
-    rt.stdin().take(enough).read_to_end(&mut file)?;
-    let text = day::settle(rt.alloc(), &file)?;
-    print!(rt; "{text}")?;
-    Ok(())
+fn main(rt: HostRuntime) -> io::Result<()> {
+    day::answer_file(rt.alloc(), rt.stdin(), &mut rt.stdout())
 }
