@@ -131,7 +131,7 @@ module _ (m : Meaning) (T W : ℕ) where
       record { mixed = k.mixed; ran = k.ran; early = λ _. k.early (blank_early l.stage p.0); light = k.light; without = k.without; sound_prices = λ h. no_clash (sym h) }
   entered_kept l (price d ns) k e =
       let p = check_passed (is_needed l.stage) 21 0 _ e in
-      record { mixed = k.mixed; ran = k.ran; early = λ h. no_clash h; light = k.light; without = k.without; sound_prices = λ _. (price_row_law T d ns).0 p.1 }
+      record { mixed = k.mixed; ran = k.ran; early = λ h. no_clash h; light = k.light; without = k.without; sound_prices = λ _. (price_row_law.none T d ns).0 p.1 }
   entered_kept l (run u es slots) k e =
       let p = check_passed (is_priced l.stage) 21 u _ e in
       let q = check_passed (ltb u m.units) 24 u _ p.1 in
