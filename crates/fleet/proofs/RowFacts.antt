@@ -1,8 +1,8 @@
 -- What a checked row keeps, and what an entry gains at it. Assumes nothing.
-use Rattle.std.proofs.Common.{◌≡◌, ℕ, ◌+◌, ◌<◌, ◌≤◌, Bool, true, false, not, cond, eqb, ltb, List, [], ◌∷◌, length, get_or, take, ℤ, pos, ◌+ℤ◌, ◌-ℤ◌, ◌*ℤ◌, Some, None, Option, sym, refl, ap, ◌∙◌, subst, ⊎_elim, arith, length-take}
+use Rattle.std.proofs.Common.{◌≡◌, ℕ, ◌+◌, ◌<◌, ◌≤◌, Bool, true, false, not, cond, eqb, ltb, List, [], ◌∷◌, length, get_or, ◌++◌, ◌-◌, take, replicate, ℤ, pos, ◌+ℤ◌, ◌-ℤ◌, ◌*ℤ◌, Some, None, Option, sym, refl, ap, ◌∙◌, subst, ⊎_elim, arith, length-take}
 use lib.IntN.{*ℤ-zero}
 use Rattle.std.proofs.lemmas.List.Sums.{prefix_len_passes}
-use Rattle.std.proofs.lemmas.List.{get_or-take, get_or_past}
+use Rattle.std.proofs.lemmas.List.{get_or-take, get_or_past, take_at}
 use Rattle.std.proofs.lemmas.Int.{ints}
 use Rattle.std.proofs.lemmas.Bool.{cases_lt}
 use Rattle.std.proofs.lemmas.Bool.Decides.{nat_tests}
@@ -84,12 +84,19 @@ row_fine T m xs r long is none = by (eqb (length xs) T) refl (ltb (prefix_len (n
     by true e true f = let h = all in absurd (grind (arith, nat_tests))
     by false e k f = absurd (grind (arith, nat_tests))
 
--- a row without such a number, with zeros after it
-pub padded_near : (m n : ℕ) (xs row : List ℤ) (r : Option ℕ) → take (length row) xs ≡ row → length row ≡ n → r ≡ position (λ z. not (near m z)) row → r ≡ None → (k : ℕ) → k < n → near m (get_or xs k (pos 0)) ≡ true
+-- a row with zeros after it: what is its own, and what is not
+module _ (n : ℕ) (xs row : List ℤ) (long : length row ≡ n) (padded : xs ≡ row ++ replicate (48 - length row) (pos 0)) where
+  pub padded_own : take n xs ≡ row
+  padded_own = ap (take n) padded ∙ take_at row (replicate (48 - length row) (pos 0)) n long
+
+  pub padded_unused : xs ≡ take n xs ++ replicate (48 - n) (pos 0)
+  padded_unused = padded ∙ (λ i. sym padded_own i ++ replicate (48 - long i) (pos 0))
+
+-- without such a number
+pub padded_near : (m n : ℕ) (xs row : List ℤ) (r : Option ℕ) → take n xs ≡ row → length row ≡ n → r ≡ position (λ z. not (near m z)) row → r ≡ None → (k : ℕ) → k < n → near m (get_or xs k (pos 0)) ≡ true
 padded_near m n xs row r e s is none k l =
-    let j : k < length row = omega arith in
     let all = none_beyond m row (sym (first_beyond_is m row r is) ∙ none) in
-    ap (near m) (sym (get_or-take (length row) xs k (pos 0) j) ∙ ap (λ ys. get_or ys k (pos 0)) e) ∙ prefix_len_passes (near m) row k (pos 0) (omega arith)
+    ap (near m) (sym (get_or-take n xs k (pos 0) l) ∙ ap (λ ys. get_or ys k (pos 0)) e) ∙ prefix_len_passes (near m) row k (pos 0) (omega arith)
 
 -- what an entry gains, from its parts
 pub gain_entry : (p : UnitModel) (r : Prices) (t a b : ℕ) (q n c x : ℤ) (d : ℕ) → n ≡ numerator_at r t → d ≡ r.over → c ≡ p.cost t a b q → x ≡ (n *ℤ q) -ℤ (pos d *ℤ c) → x ≡ entry_gain p r t a b q

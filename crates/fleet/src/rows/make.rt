@@ -1,5 +1,5 @@
 // Making and reading checked rows.
-ghost use Rattle.std.specs.Prelude.{◌≡◌, ◌≤◌, length, take, pos, None, position, not, slice_index_or};
+ghost use Rattle.std.specs.Prelude.{◌≡◌, ◌≤◌, ◌-◌, ◌++◌, length, replicate, pos, None, position, not, slice_index_or};
 ghost use Rattle.terms.specs.Numbers.{near};
 ghost use Rattle.fleet.specs.Rows.{Made, RowOf, PriceRowOf, NeedRowOf, row_fault, price_fault, need_fault, numbers_of, prices_of, periods_of, wanted_of, PriceRowLaw, NeedRowLaw};
 ghost use Rattle.fleet.specs.Schedules.{numerator_at};
@@ -17,7 +17,7 @@ fn first_beyond(limit: u32, numbers: &[i32]) -> Option<usize>
 
 fn padded(numbers: &[i32]) -> [i32; 48]
     requires { length numbers.now ≤ 48 }
-    ensures { take (length numbers.now) result ≡ numbers.now }
+    ensures { result ≡ numbers.now ++ replicate (48 - length numbers.now) (pos 0) }
 {
     let mut all = [0; 48];
     all[..numbers.len()].copy_from_slice(numbers);
