@@ -1,10 +1,10 @@
 -- The laws of the scores. Assumes nothing.
-use Rattle.std.specs.Prelude.{◌≡◌, ℕ, ◌+◌, ◌*◌, Bool, true, false, ℤ, pos, ◌+ℤ◌, neg_ℤ, ◌≤ℤ◌, int_le}
+use Rattle.std.specs.Prelude.{◌≡◌, ℕ, ◌+◌, ◌*◌, Bool, true, false, ℤ, pos, ◌+ℤ◌, ◌≤ℤ◌, int_le}
 use Rattle.std.proofs.Common.{ap, arith, add-mul}
 use Rattle.std.proofs.Math.IntN.{+ℤ_assoc, +ℤ_idl, +ℤ_idr}
 use Rattle.std.proofs.lemmas.Int.{ints}
 use Rattle.terms.specs.Numbers.{Near}
-use Rattle.fleet.specs.Scores.{Scale, Lawful, turned, gain_scale, lots_scale, more_scale, fewer_scale, lexical}
+use Rattle.fleet.specs.Scores.{Scale, Lawful, turned, gain_scale, lots_scale, lexical}
 
 none_near : (k : ℕ) → Near (0 * k) (pos 0)
 none_near k = record { low = omega (arith, ints); high = omega (arith, ints) }
@@ -14,9 +14,6 @@ one_near k z h = record { low = omega (arith, ints); high = omega (arith, ints) 
 
 largest_near : (k : ℕ) → Near k (pos k)
 largest_near k = record { low = omega (arith, ints); high = omega (arith, ints) }
-
-lowest_near : (k : ℕ) → Near k (neg_ℤ (pos k))
-lowest_near k = record { low = omega (arith, ints); high = omega (arith, ints) }
 
 sum_near : (k m n : ℕ) (y z : ℤ) → Near (m * k) y → Near (n * k) z → Near ((m + n) * k) (y +ℤ z)
 sum_near k m n y z h i = let e = add-mul m n k in record { low = omega (arith, ints); high = omega (arith, ints) }
@@ -91,12 +88,6 @@ lex_less_right c z a x b y h = grind (arith, ints)
 more_tops : (g q : ℤ) → Near (1 * 1000000000000) g → Near (1 * 500) q → lexical g q (pos 1000000000000) (pos 500) ≡ true
 more_tops g q h k = let a = h.high in let b = k.high in grind (arith, ints)
 
-fewer_tops : (g q : ℤ) → Near (1 * 1000000000000) g → Near (1 * 500) q → lexical g (neg_ℤ (pos 500)) (pos 1000000000000) q ≡ true
-fewer_tops g q h k = let a = h.high in let b = k.low in grind (arith, ints)
-
-fewer_chain : (a x b y c z : ℤ) → lexical a y b x ≡ true → lexical b z c y ≡ true → lexical a z c x ≡ true
-fewer_chain a x b y c z h k = grind (arith, ints)
-
 pub pair : {A B X : Type 0} (f : A → B → X) {a a' : A} {b b' : B} → a ≡ a' → b ≡ b' → f a b ≡ f a' b'
 pair f p q = cc
 
@@ -122,12 +113,6 @@ lots_lawful fewer = record {
   fits_of = λ g q h. (one_near 1000000000000 g h.gain, one_near 500 (turned fewer q) (turned_near fewer 500 q h.lots));
   fits_add = λ m n a b h k. (sum_near 1000000000000 m n a.gain b.gain h.0 k.0, sum_near 500 m n a.rank b.rank h.1 k.1);
 }
-
-pub more_lawful : Lawful more_scale
-more_lawful = lots_lawful false
-
-pub fewer_lawful : Lawful fewer_scale
-fewer_lawful = lots_lawful true
 
 -- whole numbers, as the gain alone
 abbrev pub int_scale : Scale ℤ

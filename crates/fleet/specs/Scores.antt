@@ -82,9 +82,3 @@ MoreLots = ByLots 0
 
 abbrev pub FewerLots : Type 0
 FewerLots = ByLots 1
-
-abbrev pub more_scale : Scale MoreLots
-more_scale = lots_scale false
-
-abbrev pub fewer_scale : Scale FewerLots
-fewer_scale = lots_scale true
