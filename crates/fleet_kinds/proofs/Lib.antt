@@ -1,1 +1,2 @@
 mod Costs
+mod OutageLaws

@@ -1,6 +1,6 @@
 // Outages over any fleet.
 ghost use Rattle.std.specs.Prelude.{◌≡◌, false, [], ◌∷◌, ◌++◌, length, is_ok, if◌then◌else◌};
-ghost use Rattle.fleet_kinds.specs.OutageLists.{covers, out, only_zero, out_meaning, outage_fault, AddAnswer};
+ghost use Rattle.fleet_kinds.specs.OutageLists.{covers, out, only_zero, out_meaning, outage_fault, AddAnswer, OutageLaw, WhenOutLaw};
 ghost use Rattle.std.proofs.Common.{rules};
 
 use arrayvec::ArrayVec;
@@ -44,10 +44,12 @@ impl<F: Fleet> Outages<F> {
     ghost use Rattle.fleet_kinds.specs.Lending.{lends_fleet};
 
     // The fleet without outages.
+    #[tactic(auto, using(crate::proofs::OutageLaws::when_out_law))]
     pub fn new(fleet: F) -> Outages<F>
         ensures fleet { result.fleet ≡ fleet }
         ensures list { result.list.items ≡ [] }
         ensures same { out_meaning result.list.items (F.Fleet.meaning result.fleet) ≡ F.Fleet.meaning fleet }
+        ensures law { WhenOutLaw }
     {
         Outages {
             fleet,
@@ -56,11 +58,13 @@ impl<F: Fleet> Outages<F> {
     }
 
     // One outage more. Declined with 13 for a 17th, then 14 where there is no such unit, first > last or last > 47.
+    #[tactic(auto, using(crate::proofs::OutageLaws::outage_law))]
     pub fn add(&mut self, outage: Outage) -> Result<(), Decline>
         ensures answer { AddAnswer (outage_fault (F.Fleet.meaning self.old.fleet).units (length self.old.list.items) outage) result }
         ensures list { self.new.list.items ≡ (if is_ok result then self.old.list.items ++ (outage ∷ []) else self.old.list.items) }
         ensures fleet { self.new.fleet ≡ self.old.fleet }
         ensures untouched { is_ok result ≡ false → self.new ≡ self.old }
+        ensures law { OutageLaw }
     {
         if self.list.is_full() {
             return Err(Cause::TooManyOutages.at(0));

@@ -59,8 +59,8 @@ impl<const LIMIT: u32> Row<LIMIT> {
 }
 
 impl PriceRow {
-    // A row of a day's prices. Declined with 22 where the numerators are not as many as the day's periods, then 23 at the
-    // first beyond the limit, then 23 at the day's length for a denominator that is not 1 to 1,000.
+    // A row of a day's prices. Declined with 22 where the numerators are not as many as the day's periods, then 23 at
+    // the first beyond the limit, then 23 at the day's length for a denominator that is not 1 to 1,000.
     #[tactic(auto, using(crate::proofs::RowLaws::price_row_law))]
     pub fn new(periods: Periods, over: u32, numerators: &[i32]) -> Result<PriceRow, Decline>
         ensures made { Made (price_fault periods.count over numerators.now) (PriceRowOf periods.count over numerators.now) result }
@@ -96,8 +96,8 @@ impl PriceRow {
 }
 
 impl NeedRow {
-    // A row of a day's wanted lots. Declined with 22 where they are not as many as the day's periods, then 23 at the first
-    // beyond the limit.
+    // A row of a day's wanted lots. Declined with 22 where they are not as many as the day's periods, then 23 at the
+    // first beyond the limit.
     #[tactic(auto, using(crate::proofs::RowLaws::need_row_law))]
     pub fn new(periods: Periods, wanted: &[i32]) -> Result<NeedRow, Decline>
         ensures made { Made (need_fault periods.count wanted.now) (NeedRowOf periods.count wanted.now) result }
