@@ -15,3 +15,4 @@ pub mod UnitCalls
 pub mod Judging
 pub mod Questions
 pub mod OneAnswer
+pub mod Fits

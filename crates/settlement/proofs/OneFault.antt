@@ -8,7 +8,7 @@ use Rattle.settlement.specs.Evidence.{Ran, RunsMeet, Whole, MixesMeet}
 use Rattle.settlement.specs.Reasons.{FirstNot, here, reason, nothing, wrong, OneFaultLaw}
 use Rattle.settlement.proofs.Ledgers.{some_none}
 
-same_fault : (f g : Fault) → f.number ≡ g.number → f.place ≡ g.place → f ≡ g
+pub same_fault : (f g : Fault) → f.number ≡ g.number → f.place ≡ g.place → f ≡ g
 same_fault f g n p = make f.number f.place g.number g.place n p
   where
     make : (a b c d : ℕ) → a ≡ c → b ≡ d → ◌≡◌ {A = Fault} (record { number = a; place = b }) (record { number = c; place = d })

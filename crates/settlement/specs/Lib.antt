@@ -10,3 +10,4 @@ pub mod Follow
 pub mod Calls
 pub mod Words
 pub mod OneAnswers
+pub mod Entering

@@ -5,6 +5,7 @@ ghost use Rattle.settlement.specs.Ledger.{need, price, run, mix};
 ghost use Rattle.settlement.specs.Reasons.{KeptAtDecline};
 ghost use Rattle.settlement.specs.Follow.{GoesOn};
 ghost use Rattle.settlement.specs.Calls.{Enters, WorkTable};
+ghost use Rattle.settlement.specs.Entering.{FitsLaw, HeldLaw, EntersLaw};
 
 use crate::docket::Docket;
 use crate::stages::RowCall;
@@ -17,6 +18,9 @@ impl<F: Fleet> Docket<F> {
         ensures goes { GoesOn F.Fleet.meaning self.old self.new (need wanted.now) (Enters (need wanted.now) result) }
         ensures fleet { self.new.fleet ≡ self.old.fleet }
         ensures kept { KeptAtDecline self.old self.new result }
+        ensures fits { FitsLaw }
+        ensures held { HeldLaw }
+        ensures enters { EntersLaw }
     {
         self.sheet.enter(self.periods, RowCall::Need(wanted))
     }

@@ -1,0 +1,78 @@
+-- Which calls a ledger takes, and why it holds one back, in the words of the subject. Assumes nothing.
+use Rattle.std.specs.Prelude.{◌≡◌, ◌≢◌, ℕ, ◌+◌, ◌<◌, ◌≤◌, ◌⊎◌, ◌↔◌, List, [], ◌∷◌, ◌++◌, length, ℤ, pos, Some, None, slice_index_or}
+use Rattle.terms.specs.Numbers.{Near}
+use Rattle.fleet.specs.Units.{Meaning}
+use Rattle.fleet.specs.Schedules.{Schedule, FirstBad}
+use Rattle.fleet.specs.Rows.{Fault, Bounded, SoundPrices}
+use Rattle.settlement.specs.Ledger.{Ledger, blank, needed, priced, Call, need, price, run, mix, supply, show, judge, weighs, held_back, entered, ledger}
+use Rattle.settlement.specs.Evidence.{Ran}
+use Rattle.settlement.specs.Reasons.{FirstNot, here, reason, nothing, wrong, Declined}
+
+-- a row that is not T numbers within ±b
+abbrev pub unfit_row : ℕ → ℕ → List ℤ → (Fault → Type 0) → Fault → Type 0
+unfit_row T b xs after =
+    reason 22 (here 0 (length xs ≢ T))
+    (reason 23 (FirstNot T (λ t. Near b (slice_index_or xs t (pos 0)))) after)
+
+module _ (m : Meaning) (T W : ℕ) where
+  -- the stage takes the call, and its arguments keep their rules
+  abbrev pub Fits : Ledger → Call → Type 0
+  Fits l (need xs) = (l.stage ≡ blank) × Bounded T 32000 xs
+  Fits l (price d ns) = (l.stage ≡ needed) × SoundPrices T d ns
+  Fits l (run u es slots) = (l.stage ≡ priced) × (u < m.units) × (l.runs u ≡ None) × Schedule (m.model u) T es × (3920 ≤ slots)
+  Fits l (mix u w es) = (l.stage ≡ priced) × (u < m.units) × Schedule (m.model u) T es × Ran l u × (1 ≤ w) × (w + weighs u l.mixes ≤ W)
+  Fits l (supply u fewer more) = (l.stage ≡ priced) × (u < m.units) × (3920 ≤ fewer) × (3920 ≤ more)
+  Fits l (show u slots room) = (l.stage ≡ priced) × (u < m.units) × (3920 ≤ slots) × (T ≤ room)
+  Fits l (judge room) = (l.stage ≡ priced) × (m.units ≤ room)
+
+  -- what holds a call back, in rising number; where nothing does, what comes after
+  abbrev pub unfit : Ledger → Call → (Fault → Type 0) → Fault → Type 0
+  unfit l (need xs) after =
+      reason 21 (here 0 (l.stage ≢ blank))
+      (unfit_row T 32000 xs after)
+  unfit l (price d ns) after =
+      reason 21 (here 0 (l.stage ≢ needed))
+      (unfit_row T 1000000000 ns
+      (reason 23 (here T ((d < 1) ⊎ (1000 < d))) after))
+  unfit l (run u es slots) after =
+      reason 21 (here u (l.stage ≢ priced))
+      (reason 24 (here u (m.units ≤ u))
+      (reason 25 (here u (Ran l u))
+      (reason 26 (here u (length es ≢ T))
+      (reason 27 (FirstBad (m.model u) es)
+      (reason 30 (here u (slots < 3920)) after)))))
+  unfit l (mix u w es) after =
+      reason 21 (here u (l.stage ≢ priced))
+      (reason 24 (here u (m.units ≤ u))
+      (reason 26 (here u (length es ≢ T))
+      (reason 27 (FirstBad (m.model u) es)
+      (reason 28 (here u (l.runs u ≡ None))
+      (reason 29 (here u ((w < 1) ⊎ (W < w + weighs u l.mixes))) after)))))
+  unfit l (supply u fewer more) after =
+      reason 21 (here u (l.stage ≢ priced))
+      (reason 24 (here u (m.units ≤ u))
+      (reason 30 (here u ((fewer < 3920) ⊎ (more < 3920))) after))
+  unfit l (show u slots room) after =
+      reason 21 (here u (l.stage ≢ priced))
+      (reason 24 (here u (m.units ≤ u))
+      (reason 30 (here u ((slots < 3920) ⊎ (room < T))) after))
+  unfit l (judge room) after =
+      reason 21 (here 0 (l.stage ≢ priced))
+      (reason 30 (here 0 (room < m.units)) after)
+
+-- nothing holds a call back exactly where it fits
+abbrev pub FitsLaw : Type 0
+FitsLaw = (m : Meaning) (T W : ℕ) (l : Ledger) (c : Call) → (held_back m T W l c ≡ None) ↔ Fits m T W l c
+
+-- else the first reason that applies does, with its number and place
+abbrev pub HeldLaw : Type 0
+HeldLaw = (m : Meaning) (T W : ℕ) (l : Ledger) (c : Call) (f : Fault) → (held_back m T W l c ≡ Some f) ↔ unfit m T W l c nothing f
+
+-- all that a call is declined with, in rising number
+abbrev pub DeclinedLaw : Type 0
+DeclinedLaw = (m : Meaning) (T W : ℕ) (l : Ledger) (c : Call) (f : Fault) → Declined m T W l c f ↔ unfit m T W l c (wrong m T W l c) f
+
+-- a call that fits is entered, and no other alters the ledger
+pub record EntersLaw : Type 0 where
+  pub fit : (m : Meaning) (T W : ℕ) (cs : List Call) (c : Call) → Fits m T W (ledger m T W cs) c → ledger m T W (cs ++ (c ∷ [])) ≡ entered m T W (ledger m T W cs) c
+  pub unfit : (m : Meaning) (T W : ℕ) (cs : List Call) (c : Call) → (Fits m T W (ledger m T W cs) c → ⊥) → ledger m T W (cs ++ (c ∷ [])) ≡ ledger m T W cs
