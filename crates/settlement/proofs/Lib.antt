@@ -15,4 +15,5 @@ pub mod UnitCalls
 pub mod Judging
 pub mod Questions
 pub mod OneAnswer
+pub mod Chains
 pub mod Fits

@@ -1,5 +1,5 @@
 -- Opening a docket. Assumes nothing.
-use Rattle.std.proofs.Common.{◌≡◌, ℕ, ◌<◌, ◌≤◌, true, false, not, ◌&&◌, eqb, leb, ◌⊎◌, get_or, pos, Some, None, Option, sym, refl, ap, ◌∙◌, subst, arith}
+use Rattle.std.proofs.Common.{◌≢◌, inl, inr, ◌≡◌, ℕ, ◌<◌, ◌≤◌, not, ◌&&◌, eqb, leb, ◌⊎◌, get_or, pos, None, Option, sym, refl, ap, ◌∙◌, subst, arith}
 use Rattle.std.proofs.lemmas.Bool.Decides.{nat_tests}
 use Rattle.terms.proofs.Sums.{sum_to_zero}
 use Rattle.fleet.specs.Units.{Meaning}
@@ -8,29 +8,40 @@ use Rattle.settlement.specs.declared.standing.Standing.{Standing}
 use Rattle.settlement.specs.Ledger.{fresh}
 use Rattle.settlement.specs.Sheets.{BlankSheet}
 use Rattle.settlement.specs.Follow.{StageFollows, UnitFollows, SheetFollows}
-use Rattle.settlement.specs.Calls.{open_fault}
+use Rattle.settlement.specs.Calls.{open_fault, Opens, unopened_by, OpenLaw}
+use Rattle.settlement.specs.Reasons.{nothing}
+use Rattle.settlement.proofs.Chains.{Test, Told, told_none, told_as, told_check, alone}
 use Rattle.settlement.proofs.SheetFacts.{always}
 
-no_units : (n : ℕ) → n ≡ 0 → not (eqb n 0) ≡ false
-no_units n e = rw e refl
+range_test : (T W : ℕ) → Test ((leb 1 T && leb T 48) && (leb 1 W && leb W 1000)) (((1 ≤ T) × (T ≤ 48)) × ((1 ≤ W) × (W ≤ 1000))) (((T < 1) ⊎ (48 < T)) ⊎ ((W < 1) ⊎ (1000 < W)))
+range_test T W = record {
+  good = λ e. ((grind (arith, nat_tests), grind (arith, nat_tests)), (grind (arith, nat_tests), grind (arith, nat_tests)));
+  bad = λ e. grind (arith, nat_tests);
+  never = λ g h. grind arith;
+}
 
-some_units : (n : ℕ) → (n ≡ 0 → ⊥) → not (eqb n 0) ≡ true
-some_units n h = grind (arith, nat_tests)
+some_test : (n : ℕ) → Test (not (eqb n 0)) (n ≢ 0) (n ≡ 0)
+some_test n = record { good = λ e h. grind (arith, nat_tests); bad = λ e. grind (arith, nat_tests); never = λ g h. g h }
 
-out_of_range : (T W : ℕ) → ((T < 1) ⊎ (48 < T)) ⊎ ((W < 1) ⊎ (1000 < W)) → ((leb 1 T && leb T 48) && (leb 1 W && leb W 1000)) ≡ false
-out_of_range T W h = grind (arith, nat_tests)
+told : (m : Meaning) (T W : ℕ) → Told nothing (open_fault m T W) (Opens m T W) (unopened_by m T W)
+told m T W =
+    told_as
+    (told_check 11 0 (some_test m.units)
+    (told_check 12 0 (range_test T W) told_none))
+    (λ h. record { units = h.0; periods = h.1.0.0; weight = h.1.0.1 })
+    (λ h. (h.units, ((h.periods, h.weight), tt)))
 
-in_range : (T W : ℕ) → 1 ≤ T → T ≤ 48 → 1 ≤ W → W ≤ 1000 → ((leb 1 T && leb T 48) && (leb 1 W && leb W 1000)) ≡ true
-in_range T W a b c d = grind (arith, nat_tests)
+pub open_law : OpenLaw
+open_law = record {
+  none = λ m T W. let t = told m T W in (t.none, t.free);
+  some = λ m T W f. let t = told m T W in (λ e. t.to f (inl e), λ h. alone (open_fault m T W) f (t.from f h));
+}
 
-pub open_11 : (m : Meaning) (T W : ℕ) → m.units ≡ 0 → open_fault m T W ≡ Some (record { number = 11; place = 0 })
-open_11 m T W e = let h = no_units m.units e in rw h refl
+pub by_11 : (m : Meaning) (T W : ℕ) → m.units ≡ 0 → unopened_by m T W (record { number = 11; place = 0 })
+by_11 m T W e = inl (refl, (refl, e))
 
-pub open_12 : (m : Meaning) (T W : ℕ) → (m.units ≡ 0 → ⊥) → ((T < 1) ⊎ (48 < T)) ⊎ ((W < 1) ⊎ (1000 < W)) → open_fault m T W ≡ Some (record { number = 12; place = 0 })
-open_12 m T W e r = let h = some_units m.units e in let k = out_of_range T W r in rw (h, k) refl
-
-pub open_fine : (m : Meaning) (T W : ℕ) → (m.units ≡ 0 → ⊥) → 1 ≤ T → T ≤ 48 → 1 ≤ W → W ≤ 1000 → open_fault m T W ≡ None
-open_fine m T W e a b c d = let h = some_units m.units e in let k = in_range T W a b c d in rw (h, k) refl
+pub by_12 : (m : Meaning) (T W : ℕ) → (m.units ≡ 0 → ⊥) → ((T < 1) ⊎ (48 < T)) ⊎ ((W < 1) ⊎ (1000 < W)) → unopened_by m T W (record { number = 12; place = 0 })
+by_12 m T W e r = inr (λ p h. e h.1, inl (refl, (refl, r)))
 
 pub blank_follows : (m : Meaning) (T : ℕ) (s : Sheet) → BlankSheet s → SheetFollows m T fresh s
 blank_follows m T s b =

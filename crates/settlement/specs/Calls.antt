@@ -1,5 +1,5 @@
 -- What each call answers, and what it leaves. Assumes nothing.
-use Rattle.std.specs.Prelude.{◌≡◌, ℕ, ◌<◌, ◌≤◌, Bool, true, false, not, ◌&&◌, ◌⊎◌, List, [], length, take, ℤ, Some, None, Ok, Err, Option, Result, ◌==◌, ◌≢◌, nat_le}
+use Rattle.std.specs.Prelude.{◌≡◌, ℕ, ◌<◌, ◌≤◌, Bool, true, false, not, ◌&&◌, ◌⊎◌, ◌↔◌, List, [], length, take, ℤ, Some, None, Ok, Err, Option, Result, ◌==◌, ◌≢◌, nat_le}
 use Rattle.terms.specs.Declines.{Says, number_of}
 use Rattle.terms.specs.declared.decline.Decline.{Decline}
 use Rattle.terms.specs.declared.decline.Layer.TheVariants.{Docket as DocketLayer, Fleet as FleetLayer}
@@ -17,7 +17,7 @@ use Rattle.settlement.specs.declared.counted.Counted.{Counted}
 use Rattle.settlement.specs.declared.docket.Docket.{Docket}
 use Rattle.settlement.specs.declared.docket.Unopened.{Unopened}
 use Rattle.settlement.specs.Ledger.{Ledger, Call, supply, show, check}
-use Rattle.settlement.specs.Reasons.{Declined, Answered}
+use Rattle.settlement.specs.Reasons.{Declined, Answered, here, reason, nothing}
 use Rattle.settlement.specs.declared.verdicts.Judgement.{Judgement}
 use Rattle.settlement.specs.Weighing.{Weighed, verdict_of}
 use Rattle.settlement.specs.Follow.{Follows}
@@ -27,10 +27,26 @@ use Rattle.settlement.specs.Follow.{Follows}
 abbrev pub open_fault : Meaning → ℕ → ℕ → Option Fault
 open_fault m T W = check (not (m.units == 0)) 11 0 (check ((nat_le 1 T && nat_le T 48) && (nat_le 1 W && nat_le W 1000)) 12 0 None)
 
+-- the fleet has a unit, the periods are 1 to 48, the weight is 1 to 1,000
+pub record Opens (m : Meaning) (T W : ℕ) : Type 0 where
+  pub units : m.units ≢ 0
+  pub periods : (1 ≤ T) × (T ≤ 48)
+  pub weight : (1 ≤ W) × (W ≤ 1000)
+
+-- else the first of these
+abbrev pub unopened_by : Meaning → ℕ → ℕ → Fault → Type 0
+unopened_by m T W =
+    reason 11 (here 0 (m.units ≡ 0))
+    (reason 12 (here 0 (((T < 1) ⊎ (48 < T)) ⊎ ((W < 1) ⊎ (1000 < W)))) nothing)
+
+pub record OpenLaw : Type 0 where
+  pub none : (m : Meaning) (T W : ℕ) → (open_fault m T W ≡ None) ↔ Opens m T W
+  pub some : (m : Meaning) (T W : ℕ) (f : Fault) → (open_fault m T W ≡ Some f) ↔ unopened_by m T W f
+
 -- a docket over this fleet that follows no calls; or the fleet, given back, with 11 or 12
 abbrev pub Opened : {F : Type 0} → (F → Meaning) → F → ℕ → ℕ → Result (Docket F) (Unopened F) → Type 0
-Opened mean fleet T W (Ok d) = (open_fault (mean fleet) T W ≡ None) × (d.fleet ≡ fleet) × Follows mean (mean fleet) T W [] d
-Opened mean fleet T W (Err e) = ((f : Fault) × (open_fault (mean fleet) T W ≡ Some f) × Says FleetLayer f.number f.place e.decline) × (e.fleet ≡ fleet)
+Opened mean fleet T W (Ok d) = (open_fault (mean fleet) T W ≡ None) × (d.fleet ≡ fleet) × Follows mean (mean fleet) T W [] d × Opens (mean fleet) T W
+Opened mean fleet T W (Err e) = ((f : Fault) × (open_fault (mean fleet) T W ≡ Some f) × Says FleetLayer f.number f.place e.decline × unopened_by (mean fleet) T W f) × (e.fleet ≡ fleet)
 
 -- answers --
 

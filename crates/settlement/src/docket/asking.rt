@@ -6,7 +6,7 @@ ghost use Rattle.settlement.specs.Reasons.{KeptAtDecline, OneFaultLaw, Never31La
 ghost use Rattle.settlement.specs.OneAnswers.{OneAnswerLaw};
 ghost use Rattle.settlement.specs.Entering.{DeclinedLaw};
 ghost use Rattle.settlement.specs.Follow.{GoesOn};
-ghost use Rattle.settlement.specs.Calls.{Supplies, Shows, WorkTable, VerdictGiven};
+ghost use Rattle.settlement.specs.Calls.{Supplies, Shows, WorkTable, VerdictGiven, OpenLaw};
 ghost use Rattle.settlement.specs.Verdicts.{Judges};
 
 use crate::docket::Docket;
@@ -69,10 +69,11 @@ impl<F: Fleet> Docket<F> {
 
     // Writes each unit's pay, past the units nothing, and answers uplift, gap and verdict. Declined with 21, 30, 41, 42,
     // 43, 44; 31 cannot come.
-    #[tactic(auto, using(crate::proofs::Fits::declined_law, crate::proofs::OneFault::one_fault, crate::proofs::OneAnswer::one_answer, crate::proofs::Never::never_31, crate::proofs::Ledgers::ledger_law, crate::proofs::Ledgers::check_law))]
+    #[tactic(auto, using(crate::proofs::Opens::open_law, crate::proofs::Fits::declined_law, crate::proofs::OneFault::one_fault, crate::proofs::OneAnswer::one_answer, crate::proofs::Never::never_31, crate::proofs::Ledgers::ledger_law, crate::proofs::Ledgers::check_law))]
     pub fn judge(&self, pays: &mut [i64]) -> Result<Judgement, Decline>
         ensures goes { GoesOn F.Fleet.meaning self.now self.now (judge (length pays.old)) (λ m T W l. Judges m T W l pays.old pays.new result) }
         ensures kept { KeptAtDecline pays.old pays.new result }
+        ensures open { OpenLaw }
         ensures declined { DeclinedLaw }
         ensures one { OneFaultLaw }
         ensures answer { OneAnswerLaw }
