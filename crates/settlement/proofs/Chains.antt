@@ -55,8 +55,8 @@ weight_test w W x = record { good = λ e. (grind (arith, nat_tests), grind (arit
 
 -- a chain of checks --
 
--- nothing holds back where all is fit; what holds back, or what is wrong after that, is told by the reasons
-pub record Told (after : Fault → Type 0) (o : Option Fault) (fit : Type 0) (why : Fault → Type 0) : Type 0 where
+-- nothing holds back where all is fit; what holds back, or what is wrong after that, is what the reasons say
+pub record Chain (after : Fault → Type 0) (o : Option Fault) (fit : Type 0) (why : Fault → Type 0) : Type 0 where
   pub none : o ≡ None → fit
   pub free : fit → o ≡ None
   pub to : (f : Fault) → (o ≡ Some f) ⊎ ((o ≡ None) × after f) → why f
@@ -66,49 +66,51 @@ same_parts : (a b : Fault) → Some a ≡ Some b → (b.number ≡ a.number) × 
 same_parts a b e = let s = sym (same_Some a b e) in (ap (λ (x : Fault). x.number) s, ap (λ (x : Fault). x.place) s)
 
 module _ {after : Fault → Type 0} where
-  pub told_none : Told after None (Unit {0}) after
-  told_none = record { none = λ e. tt; free = λ h. refl; to = go; from = λ f h. inr (refl, h) }
+  pub chain_end : Chain after None (Unit {0}) after
+  chain_end = record { none = λ e. tt; free = λ h. refl; to = go; from = λ f h. inr (refl, h) }
     where
       go : (f : Fault) → (◌≡◌ {A = Option Fault} None (Some f)) ⊎ (◌≡◌ {A = Option Fault} None None × after f) → after f
       go f (inl e) = some_none f (sym e)
       go f (inr h) = h.1
 
-  pub told_as : {o : Option Fault} {fit fit' : Type 0} {why : Fault → Type 0} → Told after o fit why → (fit → fit') → (fit' → fit) → Told after o fit' why
-  told_as t there back = record { none = λ e. there (t.none e); free = λ h. t.free (back h); to = t.to; from = t.from }
+  pub chain_as : {o : Option Fault} {fit fit' : Type 0} {why : Fault → Type 0} → Chain after o fit why → (fit → fit') → (fit' → fit) → Chain after o fit' why
+  chain_as t there back = record { none = λ e. there (t.none e); free = λ h. t.free (back h); to = t.to; from = t.from }
 
   -- where a check passes its reason holds nowhere
-  told_passed : {o : Option Fault} {good fit : Type 0} {why : Fault → Type 0} (n : ℕ) (At : ℕ → Type 0) → good → ((p : ℕ) → At p → ⊥) → Told after o fit why → Told after o (good × fit) (reason n At why)
-  told_passed {o = o} {why = why} n At g never t = record { none = λ e. (g, t.none e); free = λ h. t.free h.1; to = λ f h. inr (never, t.to f h); from = go }
+  chain_passed : {o : Option Fault} {good fit : Type 0} {why : Fault → Type 0} (n : ℕ) (At : ℕ → Type 0) → good → ((p : ℕ) → At p → ⊥) → Chain after o fit why → Chain after o (good × fit) (reason n At why)
+  chain_passed {o = o} {why = why} n At g never t = record { none = λ e. (g, t.none e); free = λ h. t.free h.1; to = λ f h. inr (never, t.to f h); from = go }
     where
       go : (f : Fault) → reason n At why f → (o ≡ Some f) ⊎ ((o ≡ None) × after f)
       go f (inl h) = absurd (never f.place h.1)
       go f (inr h) = t.from f h.1
 
-  -- where it fails its reason holds at this place alone
-  told_failed : {good fit : Type 0} {why : Fault → Type 0} (n place : ℕ) (At : ℕ → Type 0) → (good → ⊥) → At place → ((p : ℕ) → At p → place ≡ p) → Told after (Some (record { number = n; place = place })) (good × fit) (reason n At why)
-  told_failed {why = why} n place At bad holds only = record { none = λ e. some_none _ e; free = λ h. absurd (bad h.0); to = go; from = back }
+  -- where it fails its reason holds at this place only_held
+  chain_failed : {good fit : Type 0} {why : Fault → Type 0} (n place : ℕ) (At : ℕ → Type 0) → (good → ⊥) → At place → ((p : ℕ) → At p → place ≡ p) → Chain after (Some (record { number = n; place = place })) (good × fit) (reason n At why)
+  chain_failed {why = why} n place At bad holds only = record { none = λ e. some_none _ e; free = λ h. absurd (bad h.0); to = go; from = back }
     where
       this : Fault
       this = record { number = n; place = place }
+
       go : (f : Fault) → (Some this ≡ Some f) ⊎ ((Some this ≡ None) × after f) → reason n At why f
       go f (inl e) = let s = same_parts this f e in inl (s.0, subst At (sym s.1) holds)
       go f (inr h) = some_none this h.0
+
       back : (f : Fault) → reason n At why f → (Some this ≡ Some f) ⊎ ((Some this ≡ None) × after f)
       back f (inl h) = inl (ap Some (same_fault this f (sym h.0) (only f.place h.1)))
       back f (inr h) = absurd (h.0 place holds)
 
-  pub told_check : {ok : Bool} {o : Option Fault} {good bad fit : Type 0} {why : Fault → Type 0} (n p : ℕ) → Test ok good bad → Told after o fit why → Told after (check ok n p o) (good × fit) (reason n (here p bad) why)
-  told_check {ok = true} {bad = bad} n p test t = let g = test.good refl in told_passed n (here p bad) g (λ q h. test.never g h.1) t
-  told_check {ok = false} {bad = bad} n p test t = let b = test.bad refl in told_failed n p (here p bad) (λ g. test.never g b) (refl, b) (λ q h. sym h.0)
+  pub chain_check : {ok : Bool} {o : Option Fault} {good bad fit : Type 0} {why : Fault → Type 0} (n p : ℕ) → Test ok good bad → Chain after o fit why → Chain after (check ok n p o) (good × fit) (reason n (here p bad) why)
+  chain_check {ok = true} {bad = bad} n p test t = let g = test.good refl in chain_passed n (here p bad) g (λ q h. test.never g h.1) t
+  chain_check {ok = false} {bad = bad} n p test t = let b = test.bad refl in chain_failed n p (here p bad) (λ g. test.never g b) (refl, b) (λ q h. sym h.0)
 
-  pub told_allow : {o : Option Fault} {fit : Type 0} {why : Fault → Type 0} (u : UnitModel) (es : List Entry) → Told after o fit why → Told after (allow (bad_at u es) o) (Allowed u es × fit) (reason 27 (FirstBad u es) why)
-  told_allow {o = o} {fit = fit} {why = why} u es t = by (bad_at u es) refl
+  pub chain_allow : {o : Option Fault} {fit : Type 0} {why : Fault → Type 0} (u : UnitModel) (es : List Entry) → Chain after o fit why → Chain after (allow (bad_at u es) o) (Allowed u es × fit) (reason 27 (FirstBad u es) why)
+  chain_allow {o = o} {fit = fit} {why = why} u es t = by (bad_at u es) refl
     where
-      by : (b : Option ℕ) → bad_at u es ≡ b → Told after (allow b o) (Allowed u es × fit) (reason 27 (FirstBad u es) why)
-      by None e = told_passed 27 (FirstBad u es) (bad_none u es e) (λ k h. some_none k (sym (first_bad u es k h) ∙ e)) t
-      by (Some k) e = told_failed 27 k (FirstBad u es) (λ h. some_none k (sym e ∙ allowed_none u es h)) (bad_first u es k e) (λ j h. same_Some k j (sym e ∙ first_bad u es j h))
+      by : (b : Option ℕ) → bad_at u es ≡ b → Chain after (allow b o) (Allowed u es × fit) (reason 27 (FirstBad u es) why)
+      by None e = chain_passed 27 (FirstBad u es) (bad_none u es e) (λ k h. some_none k (sym (first_bad u es k h) ∙ e)) t
+      by (Some k) e = chain_failed 27 k (FirstBad u es) (λ h. some_none k (sym e ∙ allowed_none u es h)) (bad_first u es k e) (λ j h. same_Some k j (sym e ∙ first_bad u es j h))
 
-  module _ {o : Option Fault} {fit : Type 0} {why : Fault → Type 0} (T b : ℕ) (xs : List ℤ) (t : Told after o fit why) where
+  module _ {o : Option Fault} {fit : Type 0} {why : Fault → Type 0} (T b : ℕ) (xs : List ℤ) (t : Chain after o fit why) where
     -- the numbers before the first that is beyond
     abbrev good : ℕ
     good = prefix_len (near b) xs
@@ -122,27 +124,27 @@ module _ {after : Fault → Type 0} where
     stops : good < length xs → Fine good → ⊥
     stops lt h = both_ways (near b (get_or xs good (pos 0))) (prefix_len_stops (near b) xs (pos 0) lt) (near_true b (get_or xs good (pos 0)) h)
 
-    told_values : length xs ≡ T → Told after (cond (ltb good (length xs)) (Some (record { number = 23; place = good })) o) (((k : ℕ) → k < T → Fine k) × fit) (reason 23 (FirstNot T Fine) why)
-    told_values long = by (ltb good (length xs)) refl
+    chain_values : length xs ≡ T → Chain after (cond (ltb good (length xs)) (Some (record { number = 23; place = good })) o) (((k : ℕ) → k < T → Fine k) × fit) (reason 23 (FirstNot T Fine) why)
+    chain_values long = by (ltb good (length xs)) refl
       where
-        by : (k : Bool) → ltb good (length xs) ≡ k → Told after (cond k (Some (record { number = 23; place = good })) o) (((k : ℕ) → k < T → Fine k) × fit) (reason 23 (FirstNot T Fine) why)
+        by : (k : Bool) → ltb good (length xs) ≡ k → Chain after (cond k (Some (record { number = 23; place = good })) o) (((k : ℕ) → k < T → Fine k) × fit) (reason 23 (FirstNot T Fine) why)
         by true e =
             let lt = ltb-true good (length xs) e in
             let first : FirstNot T Fine good = record { below = omega arith; fails = stops lt; before = passes } in
-            told_failed 23 good (FirstNot T Fine) (λ h. stops lt (h good (omega arith))) first (λ p h. first_not_one T Fine good p first h)
+            chain_failed 23 good (FirstNot T Fine) (λ h. stops lt (h good (omega arith))) first (λ p h. first_not_one T Fine good p first h)
         by false e =
             let all = ltb-false good (length xs) e in
             let fine : (k : ℕ) → k < T → Fine k = λ k lt. passes k (omega arith) in
-            told_passed 23 (FirstNot T Fine) fine (λ p h. h.fails (fine p h.below)) t
+            chain_passed 23 (FirstNot T Fine) fine (λ p h. h.fails (fine p h.below)) t
 
-    pub told_row : Told after (row_fault T b xs o) ((length xs ≡ T) × (((k : ℕ) → k < T → Fine k) × fit)) (unfit_row T b xs why)
-    told_row = by (eqb (length xs) T) refl
+    pub chain_row : Chain after (row_fault T b xs o) ((length xs ≡ T) × (((k : ℕ) → k < T → Fine k) × fit)) (unfit_row T b xs why)
+    chain_row = by (eqb (length xs) T) refl
       where
-        by : (k : Bool) → eqb (length xs) T ≡ k → Told after (cond k (cond (ltb good (length xs)) (Some (record { number = 23; place = good })) o) (Some (record { number = 22; place = 0 }))) ((length xs ≡ T) × (((k : ℕ) → k < T → Fine k) × fit)) (unfit_row T b xs why)
-        by true e = let long = eqb-true (length xs) T e in told_passed 22 (here 0 (length xs ≢ T)) long (λ p h. h.1 long) (told_values long)
-        by false e = let short = eqb-false (length xs) T e in told_failed 22 0 (here 0 (length xs ≢ T)) short (refl, short) (λ p h. sym h.0)
+        by : (k : Bool) → eqb (length xs) T ≡ k → Chain after (cond k (cond (ltb good (length xs)) (Some (record { number = 23; place = good })) o) (Some (record { number = 22; place = 0 }))) ((length xs ≡ T) × (((k : ℕ) → k < T → Fine k) × fit)) (unfit_row T b xs why)
+        by true e = let long = eqb-true (length xs) T e in chain_passed 22 (here 0 (length xs ≢ T)) long (λ p h. h.1 long) (chain_values long)
+        by false e = let short = eqb-false (length xs) T e in chain_failed 22 0 (here 0 (length xs ≢ T)) short (refl, short) (λ p h. sym h.0)
 
--- with nothing after it
-pub alone : (o : Option Fault) (f : Fault) → (o ≡ Some f) ⊎ ((o ≡ None) × nothing f) → o ≡ Some f
-alone o f (inl e) = e
-alone o f (inr h) = absurd h.1
+-- where nothing comes after
+pub only_held : (o : Option Fault) (f : Fault) → (o ≡ Some f) ⊎ ((o ≡ None) × nothing f) → o ≡ Some f
+only_held o f (inl e) = e
+only_held o f (inr h) = absurd h.1

@@ -6,7 +6,7 @@ use Rattle.settlement.specs.Ledger.{Ledger, Stage, blank, needed, priced, Call, 
 use Rattle.settlement.specs.Reasons.{nothing, wrong}
 use Rattle.settlement.specs.Entering.{Fits, unfit, FitsLaw, HeldLaw, DeclinedLaw, EntersLaw}
 use Rattle.settlement.proofs.Ledgers.{some_none, more}
-use Rattle.settlement.proofs.Chains.{Test, test_true, test_false, ran_test, idle_test, below_test, same_test, room_test, rooms_test, weight_test, Told, told_none, told_as, told_check, told_allow, told_row, alone}
+use Rattle.settlement.proofs.Chains.{Test, test_true, test_false, ran_test, idle_test, below_test, same_test, room_test, rooms_test, weight_test, Chain, chain_end, chain_as, chain_check, chain_allow, chain_row, only_held}
 
 -- stages --
 
@@ -28,69 +28,69 @@ priced_test priced = test_true refl (λ h. h refl)
 -- calls --
 
 module _ (after : Fault → Type 0) (m : Meaning) (T W : ℕ) (l : Ledger) where
-  told : (c : Call) → Told after (held_back m T W l c) (Fits m T W l c) (unfit m T W l c after)
-  told (need xs) =
-      told_as
-      (told_check 21 0 (blank_test l.stage)
-      (told_row T 32000 xs told_none))
+  chain : (c : Call) → Chain after (held_back m T W l c) (Fits m T W l c) (unfit m T W l c after)
+  chain (need xs) =
+      chain_as
+      (chain_check 21 0 (blank_test l.stage)
+      (chain_row T 32000 xs chain_end))
       (λ h. (h.0, record { long = h.1.0; each = h.1.1.0 }))
       (λ h. (h.0, (h.1.long, (h.1.each, tt))))
-  told (price d ns) =
-      told_as
-      (told_check 21 0 (needed_test l.stage)
-      (told_row T 1000000000 ns
-      (told_check 23 T (rooms_test 1 d d 1000) told_none)))
+  chain (price d ns) =
+      chain_as
+      (chain_check 21 0 (needed_test l.stage)
+      (chain_row T 1000000000 ns
+      (chain_check 23 T (rooms_test 1 d d 1000) chain_end)))
       (λ h. (h.0, record { bounded = record { long = h.1.0; each = h.1.1.0 }; low = h.1.1.1.0.0; high = h.1.1.1.0.1 }))
       (λ h. (h.0, (h.1.bounded.long, (h.1.bounded.each, ((h.1.low, h.1.high), tt)))))
-  told (run u es slots) =
-      told_as
-      (told_check 21 u (priced_test l.stage)
-      (told_check 24 u (below_test u m.units)
-      (told_check 25 u (idle_test (l.runs u))
-      (told_check 26 u (same_test (length es) T)
-      (told_allow (m.model u) es
-      (told_check 30 u (room_test 3920 slots) told_none))))))
+  chain (run u es slots) =
+      chain_as
+      (chain_check 21 u (priced_test l.stage)
+      (chain_check 24 u (below_test u m.units)
+      (chain_check 25 u (idle_test (l.runs u))
+      (chain_check 26 u (same_test (length es) T)
+      (chain_allow (m.model u) es
+      (chain_check 30 u (room_test 3920 slots) chain_end))))))
       (λ h. (h.0, h.1.0, h.1.1.0, record { long = h.1.1.1.0; allowed = h.1.1.1.1.0 }, h.1.1.1.1.1.0))
       (λ h. (h.0, (h.1, (h.2, (h.3.long, (h.3.allowed, (h.4, tt)))))))
-  told (mix u w es) =
-      told_as
-      (told_check 21 u (priced_test l.stage)
-      (told_check 24 u (below_test u m.units)
-      (told_check 26 u (same_test (length es) T)
-      (told_allow (m.model u) es
-      (told_check 28 u (ran_test (l.runs u))
-      (told_check 29 u (weight_test w W (weighs u l.mixes)) told_none))))))
+  chain (mix u w es) =
+      chain_as
+      (chain_check 21 u (priced_test l.stage)
+      (chain_check 24 u (below_test u m.units)
+      (chain_check 26 u (same_test (length es) T)
+      (chain_allow (m.model u) es
+      (chain_check 28 u (ran_test (l.runs u))
+      (chain_check 29 u (weight_test w W (weighs u l.mixes)) chain_end))))))
       (λ h. (h.0, h.1.0, record { long = h.1.1.0; allowed = h.1.1.1.0 }, h.1.1.1.1.0, h.1.1.1.1.1.0.0, h.1.1.1.1.1.0.1))
       (λ h. (h.0, (h.1, (h.2.long, (h.2.allowed, (h.3, ((h.4, h.5), tt)))))))
-  told (supply u fewer more) =
-      told_as
-      (told_check 21 u (priced_test l.stage)
-      (told_check 24 u (below_test u m.units)
-      (told_check 30 u (rooms_test 3920 fewer 3920 more) told_none)))
+  chain (supply u fewer more) =
+      chain_as
+      (chain_check 21 u (priced_test l.stage)
+      (chain_check 24 u (below_test u m.units)
+      (chain_check 30 u (rooms_test 3920 fewer 3920 more) chain_end)))
       (λ h. (h.0, h.1.0, h.1.1.0.0, h.1.1.0.1))
       (λ h. (h.0, (h.1, ((h.2, h.3), tt))))
-  told (show u slots room) =
-      told_as
-      (told_check 21 u (priced_test l.stage)
-      (told_check 24 u (below_test u m.units)
-      (told_check 30 u (rooms_test 3920 slots T room) told_none)))
+  chain (show u slots room) =
+      chain_as
+      (chain_check 21 u (priced_test l.stage)
+      (chain_check 24 u (below_test u m.units)
+      (chain_check 30 u (rooms_test 3920 slots T room) chain_end)))
       (λ h. (h.0, h.1.0, h.1.1.0.0, h.1.1.0.1))
       (λ h. (h.0, (h.1, ((h.2, h.3), tt))))
-  told (judge room) =
-      told_as
-      (told_check 21 0 (priced_test l.stage)
-      (told_check 30 0 (room_test m.units room) told_none))
+  chain (judge room) =
+      chain_as
+      (chain_check 21 0 (priced_test l.stage)
+      (chain_check 30 0 (room_test m.units room) chain_end))
       (λ h. (h.0, h.1.0))
       (λ h. (h.0, (h.1, tt)))
 
 pub fits_law : FitsLaw
-fits_law m T W l c = let t = told nothing m T W l c in (t.none, t.free)
+fits_law m T W l c = let t = chain nothing m T W l c in (t.none, t.free)
 
 pub held_law : HeldLaw
-held_law m T W l c f = let t = told nothing m T W l c in (λ e. t.to f (inl e), λ h. alone (held_back m T W l c) f (t.from f h))
+held_law m T W l c f = let t = chain nothing m T W l c in (λ e. t.to f (inl e), λ h. only_held (held_back m T W l c) f (t.from f h))
 
 pub declined_law : DeclinedLaw
-declined_law m T W l c f = let t = told (wrong m T W l c) m T W l c in (t.to f, t.from f)
+declined_law m T W l c f = let t = chain (wrong m T W l c) m T W l c in (t.to f, t.from f)
 
 module _ (m : Meaning) (T W : ℕ) (new old : Ledger) where
   unless_free : (o : Option Fault) → o ≡ None → unless m T W o new old ≡ new
@@ -103,6 +103,6 @@ module _ (m : Meaning) (T W : ℕ) (new old : Ledger) where
 
 pub enters_law : EntersLaw
 enters_law = record {
-  fit = λ m T W cs c h. let l = ledger m T W cs in more m T W cs c ∙ unless_free m T W (entered m T W l c) l (held_back m T W l c) ((fits_law m T W l c).1 h);
-  unfit = λ m T W cs c h. let l = ledger m T W cs in more m T W cs c ∙ unless_held m T W (entered m T W l c) l (held_back m T W l c) (λ e. h ((fits_law m T W l c).0 e));
+  fits = λ m T W cs c h. let l = ledger m T W cs in more m T W cs c ∙ unless_free m T W (entered m T W l c) l (held_back m T W l c) ((fits_law m T W l c).1 h);
+  others = λ m T W cs c h. let l = ledger m T W cs in more m T W cs c ∙ unless_held m T W (entered m T W l c) l (held_back m T W l c) (λ e. h ((fits_law m T W l c).0 e));
 }

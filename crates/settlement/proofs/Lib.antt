@@ -17,3 +17,4 @@ pub mod Questions
 pub mod OneAnswer
 pub mod Chains
 pub mod Fits
+pub mod Taken

@@ -10,7 +10,7 @@ use Rattle.settlement.specs.Sheets.{BlankSheet}
 use Rattle.settlement.specs.Follow.{StageFollows, UnitFollows, SheetFollows}
 use Rattle.settlement.specs.Calls.{open_fault, Opens, unopened_by, OpenLaw}
 use Rattle.settlement.specs.Reasons.{nothing}
-use Rattle.settlement.proofs.Chains.{Test, Told, told_none, told_as, told_check, alone}
+use Rattle.settlement.proofs.Chains.{Test, Chain, chain_end, chain_as, chain_check, only_held}
 use Rattle.settlement.proofs.SheetFacts.{always}
 
 range_test : (T W : ℕ) → Test ((leb 1 T && leb T 48) && (leb 1 W && leb W 1000)) (((1 ≤ T) × (T ≤ 48)) × ((1 ≤ W) × (W ≤ 1000))) (((T < 1) ⊎ (48 < T)) ⊎ ((W < 1) ⊎ (1000 < W)))
@@ -23,18 +23,18 @@ range_test T W = record {
 some_test : (n : ℕ) → Test (not (eqb n 0)) (n ≢ 0) (n ≡ 0)
 some_test n = record { good = λ e h. grind (arith, nat_tests); bad = λ e. grind (arith, nat_tests); never = λ g h. g h }
 
-told : (m : Meaning) (T W : ℕ) → Told nothing (open_fault m T W) (Opens m T W) (unopened_by m T W)
-told m T W =
-    told_as
-    (told_check 11 0 (some_test m.units)
-    (told_check 12 0 (range_test T W) told_none))
+chain : (m : Meaning) (T W : ℕ) → Chain nothing (open_fault m T W) (Opens m T W) (unopened_by m T W)
+chain m T W =
+    chain_as
+    (chain_check 11 0 (some_test m.units)
+    (chain_check 12 0 (range_test T W) chain_end))
     (λ h. record { units = h.0; periods = h.1.0.0; weight = h.1.0.1 })
     (λ h. (h.units, ((h.periods, h.weight), tt)))
 
 pub open_law : OpenLaw
 open_law = record {
-  none = λ m T W. let t = told m T W in (t.none, t.free);
-  some = λ m T W f. let t = told m T W in (λ e. t.to f (inl e), λ h. alone (open_fault m T W) f (t.from f h));
+  none = λ m T W. let t = chain m T W in (t.none, t.free);
+  some = λ m T W f. let t = chain m T W in (λ e. t.to f (inl e), λ h. only_held (open_fault m T W) f (t.from f h));
 }
 
 pub by_11 : (m : Meaning) (T W : ℕ) → m.units ≡ 0 → unopened_by m T W (record { number = 11; place = 0 })

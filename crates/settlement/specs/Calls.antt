@@ -33,12 +33,13 @@ pub record Opens (m : Meaning) (T W : ℕ) : Type 0 where
   pub periods : (1 ≤ T) × (T ≤ 48)
   pub weight : (1 ≤ W) × (W ≤ 1000)
 
--- else the first of these
+-- why no docket opens, in rising number
 abbrev pub unopened_by : Meaning → ℕ → ℕ → Fault → Type 0
 unopened_by m T W =
     reason 11 (here 0 (m.units ≡ 0))
     (reason 12 (here 0 (((T < 1) ⊎ (48 < T)) ⊎ ((W < 1) ⊎ (1000 < W)))) nothing)
 
+-- one opens exactly where it may, and what it is declined with is the first reason that applies
 pub record OpenLaw : Type 0 where
   pub none : (m : Meaning) (T W : ℕ) → (open_fault m T W ≡ None) ↔ Opens m T W
   pub some : (m : Meaning) (T W : ℕ) (f : Fault) → (open_fault m T W ≡ Some f) ↔ unopened_by m T W f

@@ -1,10 +1,12 @@
 -- Which calls a ledger takes, and why it holds one back, in the words of the subject. Assumes nothing.
 use Rattle.std.specs.Prelude.{◌≡◌, ◌≢◌, ℕ, ◌+◌, ◌<◌, ◌≤◌, ◌⊎◌, ◌↔◌, List, [], ◌∷◌, ◌++◌, length, ℤ, pos, Some, None, slice_index_or}
+use Rattle.std.specs.List.{Contains}
 use Rattle.terms.specs.Numbers.{Near}
+use Rattle.terms.specs.declared.entry.Entry.{Entry}
 use Rattle.fleet.specs.Units.{Meaning}
 use Rattle.fleet.specs.Schedules.{Schedule, FirstBad}
 use Rattle.fleet.specs.Rows.{Fault, Bounded, SoundPrices}
-use Rattle.settlement.specs.Ledger.{Ledger, blank, needed, priced, Call, need, price, run, mix, supply, show, judge, weighs, held_back, entered, ledger}
+use Rattle.settlement.specs.Ledger.{Ledger, blank, needed, priced, Call, need, price, run, mix, supply, show, judge, weighs, Mix, held_back, entered, ledger}
 use Rattle.settlement.specs.Evidence.{Ran}
 use Rattle.settlement.specs.Reasons.{FirstNot, here, reason, nothing, wrong, Declined}
 
@@ -15,7 +17,7 @@ unfit_row T b xs after =
     (reason 23 (FirstNot T (λ t. Near b (slice_index_or xs t (pos 0)))) after)
 
 module _ (m : Meaning) (T W : ℕ) where
-  -- the stage takes the call, and its arguments keep their rules
+  -- the stage takes the call, and what it brings keeps the rules
   abbrev pub Fits : Ledger → Call → Type 0
   Fits l (need xs) = (l.stage ≡ blank) × Bounded T 32000 xs
   Fits l (price d ns) = (l.stage ≡ needed) × SoundPrices T d ns
@@ -72,7 +74,22 @@ HeldLaw = (m : Meaning) (T W : ℕ) (l : Ledger) (c : Call) (f : Fault) → (hel
 abbrev pub DeclinedLaw : Type 0
 DeclinedLaw = (m : Meaning) (T W : ℕ) (l : Ledger) (c : Call) (f : Fault) → Declined m T W l c f ↔ unfit m T W l c (wrong m T W l c) f
 
--- a call that fits is entered, and no other alters the ledger
+-- a call that fits is entered, and one that does not leaves the ledger as it was
 pub record EntersLaw : Type 0 where
-  pub fit : (m : Meaning) (T W : ℕ) (cs : List Call) (c : Call) → Fits m T W (ledger m T W cs) c → ledger m T W (cs ++ (c ∷ [])) ≡ entered m T W (ledger m T W cs) c
-  pub unfit : (m : Meaning) (T W : ℕ) (cs : List Call) (c : Call) → (Fits m T W (ledger m T W cs) c → ⊥) → ledger m T W (cs ++ (c ∷ [])) ≡ ledger m T W cs
+  pub fits : (m : Meaning) (T W : ℕ) (cs : List Call) (c : Call) → Fits m T W (ledger m T W cs) c → ledger m T W (cs ++ (c ∷ [])) ≡ entered m T W (ledger m T W cs) c
+  pub others : (m : Meaning) (T W : ℕ) (cs : List Call) (c : Call) → (Fits m T W (ledger m T W cs) c → ⊥) → ledger m T W (cs ++ (c ∷ [])) ≡ ledger m T W cs
+
+-- the calls have this one, and it fits the ledger of those before it
+abbrev pub Taken : Meaning → ℕ → ℕ → List Call → Call → Type 0
+Taken m T W cs c = (before : List Call) × (after : List Call) × (cs ≡ before ++ (c ∷ after)) × Fits m T W (ledger m T W before) c
+
+-- the ledger holds what was taken, and only that
+pub record HoldsTaken (m : Meaning) (T W : ℕ) (cs : List Call) (l : Ledger) : Type 0 where
+  pub needs : (xs : List ℤ) → ((l.stage ≢ blank) × (l.needs ≡ xs)) ↔ Taken m T W cs (need xs)
+  pub prices : (d : ℕ) (ns : List ℤ) → ((l.stage ≡ priced) × (l.prices ≡ record { over = d; numerators = ns })) ↔ Taken m T W cs (price d ns)
+  pub runs : (u : ℕ) (es : List Entry) → (l.runs u ≡ Some es) ↔ ((slots : ℕ) × Taken m T W cs (run u es slots))
+  pub mixes : (x : Mix) → Contains l.mixes x ↔ Taken m T W cs (mix x.unit x.weight x.schedule)
+
+-- so whatever the calls are a need row, a price row and a unit's run stand for good
+abbrev pub TakenLaw : Type 0
+TakenLaw = (m : Meaning) (T W : ℕ) (cs : List Call) → HoldsTaken m T W cs (ledger m T W cs)

@@ -1,11 +1,11 @@
-// The calls that enter something: need, price, run and mix.
+// The calls that enter something: need, price, run and mix. The laws of what is entered stand on need.
 ghost use Rattle.std.specs.Prelude.{◌≡◌, length};
 ghost use Rattle.fleet.specs.Gains.{BestGainLaw};
 ghost use Rattle.settlement.specs.Ledger.{need, price, run, mix};
 ghost use Rattle.settlement.specs.Reasons.{KeptAtDecline};
 ghost use Rattle.settlement.specs.Follow.{GoesOn};
 ghost use Rattle.settlement.specs.Calls.{Enters, WorkTable};
-ghost use Rattle.settlement.specs.Entering.{FitsLaw, HeldLaw, EntersLaw};
+ghost use Rattle.settlement.specs.Entering.{FitsLaw, HeldLaw, EntersLaw, TakenLaw};
 
 use crate::docket::Docket;
 use crate::stages::RowCall;
@@ -21,6 +21,7 @@ impl<F: Fleet> Docket<F> {
         ensures fits { FitsLaw }
         ensures held { HeldLaw }
         ensures enters { EntersLaw }
+        ensures taken { TakenLaw }
     {
         self.sheet.enter(self.periods, RowCall::Need(wanted))
     }

@@ -2,6 +2,7 @@ use Rattle.std.proofs.Common.{refl}
 use Rattle.settlement.proofs.Carries.{docket_kept}
 use Rattle.settlement.proofs.RowCalls.{need_goes}
 use Rattle.settlement.proofs.Fits.{fits_law, held_law, enters_law}
+use Rattle.settlement.proofs.Taken.{taken_law}
 use Rattle.settlement.proofs.docket.Docket.need.Goals as goal
 
 pub returns : goal.returns
@@ -15,4 +16,5 @@ returns g c =
       fits = fits_law;
       held = held_law;
       enters = enters_law;
+      taken = taken_law;
     }
