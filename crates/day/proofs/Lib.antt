@@ -6,3 +6,4 @@ mod Opens
 mod Verdicts
 pub mod OneText
 mod Enough
+mod LineLaws

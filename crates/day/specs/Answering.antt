@@ -38,10 +38,6 @@ DeclinesIf layer (Some n) line r = Declines layer n 0 line r
 abbrev pub OutOfPlace : ℕ → Reply → Type 0
 OutOfPlace line r = Declines ReaderLayer 9 1 line r
 
--- a decline of the docket, on the line of this number
-abbrev pub no : Decline → ℕ → Reply
-no d line = No d line
-
 -- need, price, run and mix: nothing, or why they are declined
 abbrev pub enters : ℕ → Result (Unit {0}) Decline → Reply
 enters line (Ok x) = Nothing

@@ -7,6 +7,7 @@ use Rattle.day.specs.Said.{nothing}
 use Rattle.day.specs.Settling.{Answered}
 use Rattle.day.proofs.Verdicts.{verdict_law}
 use Rattle.day.proofs.OneText.{one_text}
+use Rattle.day.proofs.LineLaws.{lines_law}
 use Rattle.day.proofs.Lines.{Going, going_more, going_done}
 use Rattle.day.proofs.settling.settle.Goals as goal
 
@@ -35,6 +36,7 @@ returns c =
     record {
       verdicts = verdict_law;
       one = one_text;
+      lines = lines_law;
       text = subst (λ b. cond b (text ≡ no_text (record { cause = FileTooLong; place = 1 }) 1) (Answered (lines_of file) nothing 1 text)) (sym (le-ltb 65536 (length file) few))
           (going_done file c.loop-rest.session c.loop-rest.rest.now c.loop-rest.line text i.0 none);
     }
