@@ -23,7 +23,7 @@ class_joined Close e = absurd (both_ways _ refl e)
 class_joined Blank e = absurd (both_ways _ refl e)
 class_joined Foreign e = record { blank = refl; bracket = refl }
 
-class_neither : (c : Class) → is_blank_class c ≡ false → is_bracket_class c ≡ false → is_joined_class c ≡ true
+pub class_neither : (c : Class) → is_blank_class c ≡ false → is_bracket_class c ≡ false → is_joined_class c ≡ true
 class_neither Letter e f = refl
 class_neither Digit e f = refl
 class_neither Minus e f = refl

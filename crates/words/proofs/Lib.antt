@@ -5,3 +5,4 @@ pub mod Decimals
 pub mod ReaderFacts
 pub mod Laws
 pub mod Repeats
+pub mod WordLaws

@@ -7,3 +7,4 @@ pub mod Lengths
 pub mod Answers
 pub mod Shapes
 pub mod Laws
+pub mod WordLaws
