@@ -4,6 +4,7 @@ mod Lasts
 mod Lines
 mod Opens
 mod Verdicts
+mod Runs
 pub mod OneText
 mod Enough
 mod LineLaws

@@ -3,6 +3,7 @@ pub mod Cutting
 pub mod Going
 pub mod Holding
 pub mod Lasting
+pub mod Runs
 pub mod Said
 pub mod Settling
 pub mod Verdicts

@@ -3,6 +3,7 @@ ghost use Rattle.std.specs.Prelude.{IfOk, string_bytes};
 ghost use Rattle.day.specs.Cutting.{LinesLaw};
 ghost use Rattle.day.specs.Settling.{Settled, OneTextLaw};
 ghost use Rattle.day.specs.Verdicts.{VerdictLaw};
+ghost use Rattle.day.specs.Runs.{SessionLaw};
 
 use crate::cutting::cut;
 use crate::lining::answer;
@@ -15,14 +16,16 @@ use terms::Cause;
 // The longest file that is read.
 pub const LONGEST: usize = 65_536;
 
-// The one text that a file is answered with, each line by its reply, and every verdict in it binds every price row. The
-// error is the allocator's, for want of memory for the text. Over 65,536 bytes it is declined with 1, and nothing else is read.
-#[tactic(auto, using(crate::proofs::Verdicts::verdict_law, crate::proofs::OneText::one_text, crate::proofs::LineLaws::lines_law))]
+// The one text that a file is answered with, each line by its reply, after what the forms above it say as a whole, and
+// every verdict in it binds every price row. The error is the allocator's, for want of memory for the text. Over 65,536
+// bytes it is declined with 1, and nothing else is read.
+#[tactic(auto, using(crate::proofs::Verdicts::verdict_law, crate::proofs::OneText::one_text, crate::proofs::LineLaws::lines_law, crate::proofs::Runs::session_law))]
 pub fn settle(alloc: Global, file: &[u8]) -> Result<String, AllocError>
     ensures text { IfOk result (λ text. Settled file.now (string_bytes text)) }
     ensures one { OneTextLaw }
     ensures lines { LinesLaw }
     ensures verdicts { VerdictLaw }
+    ensures session { SessionLaw }
 {
     if file.len() > LONGEST {
         let decline = Cause::FileTooLong.at(1);

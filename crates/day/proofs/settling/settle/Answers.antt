@@ -8,6 +8,7 @@ use Rattle.day.specs.Settling.{Answered}
 use Rattle.day.proofs.Verdicts.{verdict_law}
 use Rattle.day.proofs.OneText.{one_text}
 use Rattle.day.proofs.LineLaws.{lines_law}
+use Rattle.day.proofs.Runs.{session_law}
 use Rattle.day.proofs.Lines.{Going, going_more, going_done}
 use Rattle.day.proofs.settling.settle.Goals as goal
 
@@ -35,6 +36,7 @@ returns c =
     let text = string_bytes c.loop-rest.text in
     record {
       verdicts = verdict_law;
+      session = session_law;
       one = one_text;
       lines = lines_law;
       text = subst (λ b. cond b (text ≡ no_text (record { cause = FileTooLong; place = 1 }) 1) (Answered (lines_of file) nothing 1 text)) (sym (le-ltb 65536 (length file) few))
