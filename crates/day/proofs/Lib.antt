@@ -8,3 +8,4 @@ mod Runs
 pub mod OneText
 mod Enough
 mod LineLaws
+mod EachLine

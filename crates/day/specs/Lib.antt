@@ -7,3 +7,4 @@ pub mod Runs
 pub mod Said
 pub mod Settling
 pub mod Verdicts
+pub mod EachLine

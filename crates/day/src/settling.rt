@@ -4,6 +4,7 @@ ghost use Rattle.day.specs.Cutting.{LinesLaw};
 ghost use Rattle.day.specs.Settling.{Settled, OneTextLaw};
 ghost use Rattle.day.specs.Verdicts.{VerdictLaw};
 ghost use Rattle.day.specs.Runs.{SessionLaw};
+ghost use Rattle.day.specs.EachLine.{EachLineLaw};
 
 use crate::cutting::cut;
 use crate::lining::answer;
@@ -19,13 +20,14 @@ pub const LONGEST: usize = 65_536;
 // The one text that a file is answered with, each line by its reply, after what the forms above it say as a whole, and
 // every verdict in it binds every price row. The error is the allocator's, for want of memory for the text. Over 65,536
 // bytes it is declined with 1, and nothing else is read.
-#[tactic(auto, using(crate::proofs::Verdicts::verdict_law, crate::proofs::OneText::one_text, crate::proofs::LineLaws::lines_law, crate::proofs::Runs::session_law))]
+#[tactic(auto, using(crate::proofs::Verdicts::verdict_law, crate::proofs::OneText::one_text, crate::proofs::LineLaws::lines_law, crate::proofs::Runs::session_law, crate::proofs::EachLine::each_line_law))]
 pub fn settle(alloc: Global, file: &[u8]) -> Result<String, AllocError>
     ensures text { IfOk result (λ text. Settled file.now (string_bytes text)) }
     ensures one { OneTextLaw }
     ensures lines { LinesLaw }
     ensures verdicts { VerdictLaw }
     ensures session { SessionLaw }
+    ensures each { EachLineLaw }
 {
     if file.len() > LONGEST {
         let decline = Cause::FileTooLong.at(1);

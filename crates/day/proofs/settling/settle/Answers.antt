@@ -9,6 +9,7 @@ use Rattle.day.proofs.Verdicts.{verdict_law}
 use Rattle.day.proofs.OneText.{one_text}
 use Rattle.day.proofs.LineLaws.{lines_law}
 use Rattle.day.proofs.Runs.{session_law}
+use Rattle.day.proofs.EachLine.{each_line_law}
 use Rattle.day.proofs.Lines.{Going, going_more, going_done}
 use Rattle.day.proofs.settling.settle.Goals as goal
 
@@ -37,6 +38,7 @@ returns c =
     record {
       verdicts = verdict_law;
       session = session_law;
+      each = each_line_law;
       one = one_text;
       lines = lines_law;
       text = subst (λ b. cond b (text ≡ no_text (record { cause = FileTooLong; place = 1 }) 1) (Answered (lines_of file) nothing 1 text)) (sym (le-ltb 65536 (length file) few))
