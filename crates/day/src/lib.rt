@@ -12,4 +12,4 @@ mod settling;
 mod tables;
 
 pub use reading::answer_file;
-pub use settling::{LONGEST, settle};
+pub use settling::settle;

@@ -15,7 +15,7 @@ use std::alloc::{AllocError, Global};
 use terms::Cause;
 
 // The longest file that is read.
-pub const LONGEST: usize = 65_536;
+pub(crate) const LONGEST: usize = 65_536;
 
 // The one text that a file is answered with, each line by its reply, after what the forms above it say as a whole, and
 // every verdict in it binds every price row. The error is the allocator's, for want of memory for the text. Over 65,536
