@@ -47,7 +47,7 @@ closed_number lo hi s t z e =
     (λ f. f)
     (cases_Bool (stands close_text s))
 
-closed : {A : Type 0} (f : Shape A) → Sound f → opens f ≡ true → (s t : State) (a : A) → read f s ≡ got a t → stands close_text s ≡ false
+pub closed : {A : Type 0} (f : Shape A) → Sound f → opens f ≡ true → (s t : State) (a : A) → read f s ≡ got a t → stands close_text s ≡ false
 unfolding up_to
 closed nothing h o s t a e = absurd (both_ways false refl o)
 closed (natural lo hi) h o s t a e = let c = chain (number lo hi s) (λ z. give (nat_abs z)) a t e in closed_number lo hi s c.state c.value c.this

@@ -4,5 +4,8 @@ pub mod Numbers
 pub mod Decimals
 pub mod ReaderFacts
 pub mod Laws
+pub mod Partings
+pub mod Stops
+pub mod ShapeStops
 pub mod Repeats
 pub mod WordLaws
