@@ -25,7 +25,7 @@ pick t w j k rest n e next =
     (λ (f : same t w ≡ false). next (sym (cond-false _ _ _ f) ∙ e))
     (cases_Bool (same t w))
 
-named_only : (t : List ℕ) (k : FormName) → named t ≡ Some k → t ≡ name_of k
+pub named_only : (t : List ℕ) (k : FormName) → named t ≡ Some k → t ≡ name_of k
 unfolding named
 named_only t k e =
     pick t (codes "day") name.Day k _ refl e (λ e.
@@ -43,7 +43,7 @@ named_only t k e =
     pick t (codes "judge") name.Judge k _ refl e (λ e.
     let z : ◌≡◌ {A = ℕ} 0 1 = cc in absurd (omega arith))))))))))))))
 
-named_always : (k : FormName) → named (name_of k) ≡ Some k
+pub named_always : (k : FormName) → named (name_of k) ≡ Some k
 unfolding named
 named_always name.Day = refl
 named_always name.Steam = refl
@@ -70,11 +70,11 @@ name_of_word : (s t : State) (k : FormName) (o : Option Word) → first s ≡ o 
 name_of_word s t k None h e = never 5 s.end k t e
 name_of_word s t k (Some x) h e = name_by s t x k (named x.text) h refl e
 
-name_only : (s t : State) (k : FormName) → read_name s ≡ got k t → Passed s t (name_of k)
+pub name_only : (s t : State) (k : FormName) → read_name s ≡ got k t → Passed s t (name_of k)
 unfolding read_name
 name_only s t k e = name_of_word s t k (first s) refl e
 
-name_always : (s : State) (k : FormName) (ts : List (List ℕ)) → texts s.left ≡ name_of k ∷ ts → (read_name s ≡ got k (past s)) × (texts (past s).left ≡ ts)
+pub name_always : (s : State) (k : FormName) (ts : List (List ℕ)) → texts s.left ≡ name_of k ∷ ts → (read_name s ≡ got k (past s)) × (texts (past s).left ≡ ts)
 unfolding read_name
 name_always s k ts h =
     let x = standing s (name_of k) ts h in
@@ -83,10 +83,10 @@ name_always s k ts h =
 -- forms
 
 -- what is read of a line's words is there
-record Whole (s : State) (l : Line) : Type 0 where
-  words : texts s.left ≡ words_of_line l
-  ranges : Fits (shape_of l.name) l.values
-  agreement : agrees l.name l.values ≡ true
+pub record Whole (s : State) (l : Line) : Type 0 where
+  pub words : texts s.left ≡ words_of_line l
+  pub ranges : Fits (shape_of l.name) l.values
+  pub agreement : agrees l.name l.values ≡ true
 
 agreed_only : (b : Bool) (l m : Line) (s t : State) → agreed b l s ≡ got m t → (b ≡ true) × (l ≡ m)
 agreed_only true l m s t e = (refl, (got_same l m s t e).value)
@@ -102,7 +102,7 @@ form_only k s t l e =
     let z = (end_only c.state d.state d.this).0 in
     (c.value, a.1, o.words ∙ ap (λ ws. words_of (shape_of k) c.value ++ ws) z ∙ append-nil (words_of (shape_of k) c.value), o.fits, a.0)
 
-any_only : (s t : State) (l : Line) → read_any s ≡ got l t → Whole s l
+pub any_only : (s t : State) (l : Line) → read_any s ≡ got l t → Whole s l
 any_only s t l e =
     let c = chain (word open_text s) (λ _ s₁. bind (read_name s₁) (λ k. read_form k)) l t e in
     let d = chain (read_name c.state) (λ k. read_form k) l t c.next in
@@ -115,21 +115,24 @@ any_only s t l e =
       agreement = f.4;
     })
 
-any_always : (s : State) (l : Line) → Whole s l → (t : State) × (read_any s ≡ got l t)
-any_always s l w =
+-- what stands there is read, and its numbers are held against each other
+pub any_read : (s : State) (l : Line) → texts s.left ≡ words_of_line l → Fits (shape_of l.name) l.values → (t : State) × (read_any s ≡ agreed (agrees l.name l.values) l t)
+any_read s l e f =
     let k = l.name in
     let v = l.values in
-    let o = word_always open_text s (name_of k ∷ words_of (shape_of k) v) w.words in
+    let o = word_always open_text s (name_of k ∷ words_of (shape_of k) v) e in
     let n = name_always (past s) k (words_of (shape_of k) v) o.1 in
     let u = past (past s) in
-    let r = (form_law k).always u v [] w.ranges (n.1 ∙ sym (append-nil (words_of (shape_of k) v))) in (
+    let r = (form_law k).always u v [] f (n.1 ∙ sym (append-nil (words_of (shape_of k) v))) in (
       r.0,
       join (word open_text s) (λ _ s₁. bind (read_name s₁) (λ j. read_form j)) tt (past s) o.0
           ∙ join (read_name (past s)) (λ j. read_form j) k u n.0
           ∙ join (read (shape_of k) u) (λ a s₁. bind (end s₁) (λ _. agreed (agrees k a) (record { name = k; values = a }))) v r.0 r.1
-          ∙ join (end r.0) (λ _. agreed (agrees k v) l) tt r.0 (end_always r.0 r.2)
-          ∙ cond-true _ _ _ w.agreement,
+          ∙ join (end r.0) (λ _. agreed (agrees k v) l) tt r.0 (end_always r.0 r.2),
     )
+
+any_always : (s : State) (l : Line) → Whole s l → (t : State) × (read_any s ≡ got l t)
+any_always s l w = let r = any_read s l w.words w.ranges in (r.0, r.1 ∙ cond-true _ _ _ w.agreement)
 
 -- lines
 
@@ -141,13 +144,13 @@ form_by : (s : State) (b : Bool) (l : Line) → cond b blank (told (read_any s))
 form_by s true l e = let z : ◌≡◌ {A = ℕ} 0 1 = cc in absurd (omega arith)
 form_by s false l e = let g = told_is (read_any s) l e in any_only s g.0 l g.1
 
-line_only : (line : List ℕ) (o : Option (ℕ × ℕ)) (l : Line) → fault_of line ≡ o → told_by o (line_state line) ≡ says l → IsLineOf line l
+pub line_only : (line : List ℕ) (o : Option (ℕ × ℕ)) (l : Line) → fault_of line ≡ o → told_by o (line_state line) ≡ says l → IsLineOf line l
 line_only line (Some f) l h e = let z : ◌≡◌ {A = ℕ} 0 1 = cc in absurd (omega arith)
 line_only line None l h e =
     let w = form_by (line_state line) (ends (line_state line)) l e in
     record { bytes = h; words = w.words; ranges = w.ranges; agreement = w.agreement }
 
-not_ended : (s : State) (t : List ℕ) (ts : List (List ℕ)) → texts s.left ≡ t ∷ ts → ends s ≡ false
+pub not_ended : (s : State) (t : List ℕ) (ts : List (List ℕ)) → texts s.left ≡ t ∷ ts → ends s ≡ false
 not_ended s t ts h =
     ⊎_elim
     (λ y. let n : ◌≡◌ {A = List (List ℕ)} [] (t ∷ ts) = sym (ends_only s y) ∙ h in let z : ◌≡◌ {A = ℕ} 0 1 = cc in absurd (omega arith))
@@ -168,7 +171,7 @@ blank_by : (s : State) (b : Bool) → ends s ≡ b → cond b blank (told (read_
 blank_by s true h e = ends_only s h
 blank_by s false h e = absurd (told_no_blank (read_any s) e)
 
-blank_only : (line : List ℕ) (o : Option (ℕ × ℕ)) → fault_of line ≡ o → told_by o (line_state line) ≡ blank → IsBlank line
+pub blank_only : (line : List ℕ) (o : Option (ℕ × ℕ)) → fault_of line ≡ o → told_by o (line_state line) ≡ blank → IsBlank line
 blank_only line (Some f) h e = let z : ◌≡◌ {A = ℕ} 0 1 = cc in absurd (omega arith)
 blank_only line None h e = record { bytes = h; words = blank_by (line_state line) (ends (line_state line)) refl e }
 

@@ -5,5 +5,8 @@ mod Fairness
 mod OfferForms
 mod Named
 mod Exactly
+mod LineStops
+mod Parted
+mod Declining
 mod OneOffer
 pub mod OneReading

@@ -1,8 +1,9 @@
 -- Every form's shape is sound, so the law holds of it.
-use Rattle.std.proofs.Common.{◌≡◌, ℕ, ◌^◌, ◌<◌, pos, neg_ℤ, ℤ, ◌≤ℤ◌, ◌⊎◌, inl, inr, refl, lit<, lit≤, arith}
+use Rattle.std.proofs.Common.{◌≡◌, ℕ, ◌^◌, ◌<◌, ◌≤◌, pos, neg_ℤ, ℤ, ◌≤ℤ◌, ◌⊎◌, inl, inr, refl, lit<, lit≤, arith}
 use Rattle.std.proofs.lemmas.Int.{ints}
 use Rattle.words.specs.Laws.{TenDigits, Sound, Law}
 use Rattle.words.proofs.Laws.{law}
+use Rattle.words.proofs.ShapeStops.{Clear}
 use Rattle.reader.specs.declared.numbers.Was.{Was}
 use Rattle.reader.specs.declared.numbers.Was.TheVariants.{On, Off}
 use Rattle.reader.specs.declared.names.FormName.{FormName}
@@ -76,7 +77,7 @@ was_of_words (Off m) = refl
 was : Sound was_shape
 was = (words_of_was, was_of_words, (refl, periods, periods))
 
-sound : (k : FormName) → Sound (shape_of k)
+pub sound : (k : FormName) → Sound (shape_of k)
 sound name.Day = (periods, from_to 1 1000 (lit< tt) (lit< tt))
 sound name.Steam = (run, (rest, (start, (money, (steps (neg_ℤ (pos 500000)) (pos 500000) (record { low = lit< tt; high = lit< tt }), was)))))
 sound name.Ramp = (run, (rate, (money, (money, (steps (neg_ℤ (pos 500000)) (pos 500000) (record { low = lit< tt; high = lit< tt }), from_to 0 500 (lit< tt) (lit< tt))))))
@@ -93,3 +94,86 @@ sound name.Judge = tt
 
 pub form_law : (k : FormName) → Law (shape_of k)
 form_law k = law (shape_of k) (sound k)
+
+-- and clear: no range is empty, and no word is a numeral
+
+up : (lo hi : ℕ) → lo ≤ hi → pos lo ≤ℤ pos hi
+up lo hi h = omega (arith, ints)
+
+clear_count : pos 0 ≤ℤ pos 2147483647
+clear_count = up 0 2147483647 (lit≤ tt)
+
+clear_lots : pos 1 ≤ℤ pos 500
+clear_lots = up 1 500 (lit≤ tt)
+
+clear_money : pos 0 ≤ℤ pos 100000000
+clear_money = up 0 100000000 (lit≤ tt)
+
+clear_short : pos 1 ≤ℤ pos 24
+clear_short = up 1 24 (lit≤ tt)
+
+clear_periods : pos 1 ≤ℤ pos 48
+clear_periods = up 1 48 (lit≤ tt)
+
+clear_level : pos 0 ≤ℤ pos 79
+clear_level = up 0 79 (lit≤ tt)
+
+clear_amount : neg_ℤ (pos 2147483648) ≤ℤ pos 2147483647
+clear_amount = omega (arith, ints)
+
+clear_schedule : Clear schedule_shape
+clear_schedule = (refl, (clear_count, clear_amount))
+
+clear_steps : (lo hi : ℤ) → lo ≤ℤ hi → Clear (steps_shape lo hi)
+clear_steps lo hi h = (refl, (refl, (refl, (clear_lots, h))))
+
+clear_price : neg_ℤ (pos 500000) ≤ℤ pos 500000
+clear_price = omega (arith, ints)
+
+pub clear : (k : FormName) → Clear (shape_of k)
+clear name.Day = (clear_periods, up 1 1000 (lit≤ tt))
+clear name.Steam = (
+  (refl, (refl, (clear_lots, clear_lots))),
+  (
+    (refl, (refl, (clear_short, (clear_short, clear_periods)))),
+    (
+      (refl, (refl, (clear_money, clear_money))),
+      ((refl, (refl, clear_money)), (clear_steps _ _ clear_price, (refl, (refl, (refl, refl, clear_periods, clear_periods))))),
+    ),
+  ),
+)
+clear name.Ramp = (
+  (refl, (refl, (clear_lots, clear_lots))),
+  (
+    (refl, (refl, (clear_lots, clear_lots))),
+    (
+      (refl, (refl, clear_money)),
+      (
+        (refl, (refl, clear_money)),
+        (clear_steps _ _ clear_price, (refl, (refl, up 0 500 (lit≤ tt)))),
+      ),
+    ),
+  ),
+)
+clear name.Lake = (
+  (refl, (refl, up 1 79 (lit≤ tt))),
+  (
+    (refl, (refl, (clear_level, clear_level))),
+    (
+      (refl, (refl, up 0 100000 (lit≤ tt))),
+      (
+        (refl, (refl, clear_level)),
+        (refl, (refl, clear_level)),
+      ),
+    ),
+  ),
+)
+clear name.Buyer = clear_steps (pos 0) (pos 500000) (up 0 500000 (lit≤ tt))
+clear name.Out = (clear_count, (clear_count, clear_count))
+clear name.Need = clear_amount
+clear name.Price = (clear_count, clear_amount)
+clear name.Run = (clear_count, clear_schedule)
+clear name.Mix = (clear_count, (clear_count, clear_schedule))
+clear name.Supply = clear_count
+clear name.Show = clear_count
+clear name.Judge = tt

@@ -1,6 +1,7 @@
 pub mod Agreement
 pub mod Forms
 pub mod Groups
+pub mod LineDeclines
 pub mod LineLaws
 pub mod Lists
 pub mod Names

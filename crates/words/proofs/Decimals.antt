@@ -6,7 +6,7 @@ use Rattle.std.specs.Char.{is_ascii_digit}
 use Rattle.std.specs.Prelude.{nat_abs, nat_lt, nat_le, ◌==◌, ◌&&◌}
 use Rattle.std.proofs.lemmas.Str.Parse.{IsNumeralModel, numerals_by_fold, digits_value_short}
 use Rattle.std.proofs.lemmas.Fmt.{digits_decimal, digits_value-decimal, decimal-digits_value, length-decimal-le, first_decimal, decimal_digit}
-use Rattle.std.proofs.lemmas.Bool.{cond-true, cond-false, and_parts, and_from, lt-ltb, le-leb, ltb-true, leb-true, eqb-true, ne_eqb, cases_Bool, both_ways}
+use Rattle.std.proofs.lemmas.Bool.{cond-true, cond-false, and_parts, and_from, lt-ltb, le-leb, le-ltb, ltb-true, leb-true, eqb-true, ne_eqb, cases_Bool, both_ways}
 use Rattle.std.proofs.lemmas.Bool.Decides.{nat_tests}
 use Rattle.std.proofs.lemmas.Option.{same_Some}
 use Rattle.words.specs.Classes.{is_bracket}
@@ -129,3 +129,22 @@ digits_no_bracket (d ∷ ds) e = digit_no_bracket d (and_parts _ _ e).0
 pub decimal_no_bracket : (z : ℤ) → nat_abs z < 10 ^ 10 → is_bracket_text (signed_decimal z) ≡ false
 decimal_no_bracket (pos n) h = let m : n < 10 ^ 10 = h in digits_no_bracket (decimal n) (digits_decimal own n (omega arith))
 decimal_no_bracket (negsuc n) h = refl
+
+bracket_low : (b : ℕ) → is_bracket b ≡ true → b < 45
+bracket_low b e = grind (arith, nat_tests)
+
+no_natural : (b : ℕ) (ds : List ℕ) → b < 45 → natural_of (b ∷ ds) ≡ None
+no_natural b ds h = cond-false _ _ _ (ap (λ t. t && nat_le (length (b ∷ ds)) 10) (le-ltb 48 b (omega arith)))
+
+bracket_value : (b : ℕ) (ds : List ℕ) → b < 45 → value_of (b ∷ ds) ≡ None
+bracket_value b [] h = cond-false _ _ _ (ne_eqb b 48 (λ e. omega arith)) ∙ cond-false _ _ _ (ne_eqb b 45 (λ e. omega arith)) ∙ ap (signed_by pos) (no_natural b [] h)
+bracket_value b (d ∷ ds) h = cond-false _ _ _ (ne_eqb b 45 (λ e. omega arith)) ∙ ap (signed_by pos) (no_natural b (d ∷ ds) h)
+
+-- a numeral is no bracket
+pub value_no_bracket : (t : List ℕ) (z : ℤ) → value_of t ≡ Some z → is_bracket_text t ≡ false
+value_no_bracket [] z e = refl
+value_no_bracket (b ∷ ds) z e =
+    ⊎_elim
+    (λ (y : is_bracket b ≡ true). nothing z (sym (bracket_value b ds (bracket_low b y)) ∙ e))
+    (λ f. f)
+    (cases_Bool (is_bracket b))

@@ -78,11 +78,11 @@ pub which : {A B : Type 0} (x : Answer A) (f : A → Reader B) (n p : ℕ) → b
 which (got a s) f n p e = two a s refl e
 which (no m q) f n p e = one (let z : m ≡ n = cc in let y : q ≡ p = cc in ap (λ k. no k q) z ∙ ap (no n) y)
 
-no_bind : {A B : Type 0} (x : Answer A) (f : A → Reader B) → is_got x ≡ false → is_got (bind x f) ≡ false
+pub no_bind : {A B : Type 0} (x : Answer A) (f : A → Reader B) → is_got x ≡ false → is_got (bind x f) ≡ false
 no_bind (got a s) f e = absurd (both_ways _ e refl)
 no_bind (no n p) f e = refl
 
-no_after : {A B : Type 0} (x : Answer A) (f : A → Reader B) (a : A) (s : State) → x ≡ got a s → is_got (f a s) ≡ false → is_got (bind x f) ≡ false
+pub no_after : {A B : Type 0} (x : Answer A) (f : A → Reader B) (a : A) (s : State) → x ≡ got a s → is_got (f a s) ≡ false → is_got (bind x f) ≡ false
 no_after x f a s e h = ap is_got (join x f a s e) ∙ h
 
 -- what is left of the words
