@@ -65,7 +65,7 @@ outage_same layer (Some n) line q r h k = declined_same layer n 0 line q r h k
 entered_same : (c : Call) (line : ℕ) (q r : Reply) (m : Meaning) (T W : ℕ) (l : Ledger) → EntersReply c line q m T W l → EntersReply c line r m T W l → q ≡ r
 entered_same c line q r m T W l (a, h, e) (b, k, f) = e ∙ ap (enters line) (one_answer.enters m T W l c a b h k) ∙ sym f
 
-pub supply_same : (u line : ℕ) (q r : Reply) (m : Meaning) (T W : ℕ) (l : Ledger) → SupplyAnswer u line q m T W l → SupplyAnswer u line r m T W l → q ≡ r
+supply_same : (u line : ℕ) (q r : Reply) (m : Meaning) (T W : ℕ) (l : Ledger) → SupplyAnswer u line q m T W l → SupplyAnswer u line r m T W l → q ≡ r
 supply_same u line q r m T W l (a, h, e) (b, k, f) = e ∙ ap (supplies u line) (one_answer.supplies m T W l u 3920 3920 a b h k) ∙ sym f
 
 err_ok : {P X : Type 0} (d : Decline) (x : X) → ◌≡◌ {A = Result X Decline} (Err d) (Ok x) → P
@@ -81,7 +81,7 @@ shown_ok u T line new x (SupplyReply v b l m) h = absurd h
 shown_ok u T line new x (ShowReply v xs) h = λ i. ShowReply (h.0 i) (record { items = h.1 i })
 shown_ok u T line new x (Verdict p j) h = absurd h
 
-pub show_same : (u line : ℕ) (q r : Reply) (m : Meaning) (T W : ℕ) (l : Ledger) → ShowAnswer u line q m T W l → ShowAnswer u line r m T W l → q ≡ r
+show_same : (u line : ℕ) (q r : Reply) (m : Meaning) (T W : ℕ) (l : Ledger) → ShowAnswer u line q m T W l → ShowAnswer u line r m T W l → q ≡ r
 show_same u line q r m T W l (Ok x, old, new, n, h, e) (Ok y, old', new', n', k, f) =
     let es = one_answer.shown m T W l u 3920 old new old' new' x y h k in
     shown_ok u T line new x q e ∙ ap (λ z. ShowReply u (record { items = z })) es ∙ sym (shown_ok u T line new' y r f)
@@ -92,7 +92,7 @@ show_same u line q r m T W l (Err d, old, new, n, h, e) (Ok x, old', new', n', k
 show_same u line q r m T W l (Err c, old, new, n, h, e) (Err d, old', new', n', k, f) =
     e ∙ ap (λ z. No z line) (same_err c d (one_answer.shows m T W l u 3920 old new old' new' (Err c) (Err d) (n ∙ sym n') h k)) ∙ sym f
 
-pub judged_ok : (units line : ℕ) (new : List ℤ) (j : Judgement) (r : Reply) → JudgedAs units line new (Ok j) r → r ≡ Verdict (record { items = take units new }) j
+judged_ok : (units line : ℕ) (new : List ℤ) (j : Judgement) (r : Reply) → JudgedAs units line new (Ok j) r → r ≡ Verdict (record { items = take units new }) j
 judged_ok units line new j Nothing h = absurd h
 judged_ok units line new j (No d k) h = absurd h
 judged_ok units line new j (SupplyReply v b l m) h = absurd h

@@ -1,45 +1,44 @@
--- What the worked days print. Assumes nothing.
-use Rattle.std.proofs.Common.{◌≡◌, ℕ, ◌+◌, ◌<◌, ◌≤◌, List, [], ◌∷◌, ◌++◌, length, replicate, get_or, ℤ, pos, Some, None, Option, Ok, Err, refl, sym, ap, subst, ◌∙◌, inl, inr, arith}
+-- What the worked days print: each line's reply stands, and with it the text of the file. Assumes nothing.
+use Rattle.std.proofs.Common.{◌≡◌, ℕ, ◌+◌, ◌<◌, ◌≤ℤ◌, ◌-ℤ◌, ◌*ℤ◌, List, [], ◌∷◌, ◌++◌, length, replicate, get_or, drop, ℤ, pos, Some, None, Option, Ok, Err, refl, sym, subst, ◌∙◌, inl, inr, arith}
 use Rattle.std.specs.Prelude.{codes}
 use Rattle.std.specs.Fmt.{digits}
-use Rattle.terms.specs.Declines.{Says}
-use Rattle.terms.specs.Sums.{sum_to}
+use Rattle.terms.proofs.Sums.{sum_to_same}
 use Rattle.terms.specs.declared.decline.Decline.{Decline}
 use Rattle.terms.specs.declared.decline.Cause.TheVariants.{MixesMissNeed}
-use Rattle.terms.specs.declared.decline.Layer.TheVariants.{Docket}
 use Rattle.terms.specs.declared.entry.Entry.{Entry}
-use Rattle.terms.proofs.Causes.{same_decline}
-use Rattle.terms.proofs.Sums.{sum_to_same}
 use Rattle.fleet.specs.Rows.{Fault}
 use Rattle.fleet.specs.Gains.{Supply, First}
+use Rattle.fleet.specs.Uplifts.{pay_of}
 use Rattle.reader.specs.declared.offer.Offer.TheVariants.{Steam}
 use Rattle.reader.specs.declared.form.Form.{Form}
 use Rattle.reader.specs.declared.form.Form.TheVariants as form
 use Rattle.reader.specs.Names.{named, read_name}
 use Rattle.reader.specs.Forms.{line_told, told_of}
-use Rattle.reader.proofs.OneReading.{told_law}
 use Rattle.words.specs.Lines.{words_from}
 use Rattle.words.specs.Grammar.{word, end, number, up_to}
-use Rattle.settlement.specs.declared.verdicts.Verdict.{Verdict}
+use Rattle.settlement.specs.declared.verdicts.Judgement.{Judgement}
+use Rattle.settlement.specs.declared.verdicts.Verdict.{Verdict as AVerdict}
 use Rattle.settlement.specs.declared.verdicts.Verdict.TheVariants.{Least, Within}
-use Rattle.settlement.specs.Ledger.{Call, need, price, run, mix, supply, show, judge, held_back, ledger}
+use Rattle.settlement.specs.Ledger.{Ledger, Call, need, price, run, mix, supply, show, judge, held_back, ledger}
+use Rattle.settlement.specs.Evidence.{Evidence, AllBest, run_of, uplift_at, gap_at}
 use Rattle.settlement.specs.Reasons.{Declined, wrong}
+use Rattle.settlement.specs.Verdicts.{Judges}
+use Rattle.settlement.proofs.Carries.{no_fault}
+use Rattle.settlement.proofs.Duality.{bests, pay_nonneg, every_row, least_row, zero_gap}
+use Rattle.settlement.proofs.Ledgers.{ledger_law}
 use Rattle.settlement.proofs.Never.{never_31}
-use Rattle.settlement.proofs.OneFault.{one_fault}
-use Rattle.settlement.proofs.OneAnswer.{same_front}
 use Rattle.replies.specs.declared.reply.Reply.{Reply}
 use Rattle.replies.specs.declared.reply.Reply.TheVariants as reply
 use Rattle.replies.specs.Texts.{reply_text}
-use Rattle.day.specs.Said.{Said, nothing, after_form, after_line}
-use Rattle.day.specs.Answering.{EntersReply, SupplyAnswer, ShowAnswer, JudgeAnswer, FormReply, LineReply}
 use Rattle.day.specs.Cutting.{lines_of}
-use Rattle.day.specs.Settling.{Answered}
-use Rattle.day.proofs.OneText.{supply_same, show_same, judged_ok}
-use Rattle.edge_days.specs.Days.{first, second, both, on, off, day_at}
-use Rattle.edge_days.specs.EdgeDays.{Judged, at_place}
-use Rattle.edge_days.specs.EdgeDays as days
+use Rattle.day.specs.Said.{Said, nothing, after_form}
+use Rattle.day.specs.Answering.{EntersReply, SupplyAnswer, ShowAnswer, JudgeAnswer, FormReply}
+use Rattle.day.specs.Settling.{Answered, Settled}
+use Rattle.day.proofs.OneText.{one_text}
+use Rattle.edge_days.specs.Days.{first, second, both, on, off, calls, half_off, day_at}
+use Rattle.edge_days.specs.EdgeDays.{at_place}
 use Rattle.edge_days.specs.Files.{Prints, worked_day, worked_text, within_day, within_text, missed_day, missed_text, FileDays}
-use Rattle.edge_days.proofs.Stand.{edge_days, supply_five, show_five, both_sound, both_units, ten, miss, short}
+use Rattle.edge_days.proofs.Stand.{edge_days, supply_five, show_five, not_best, none_wrong, both_sound, both_units, missed, ten, miss, short}
 
 -- what each line reads to --
 
@@ -105,24 +104,28 @@ mix_1_2_0_4_line = refl
 
 -- a file, line by line --
 
--- what each line reads to, and the one reply to it
+-- what each line reads to, and a reply that answers it
 abbrev Played : List (List ℕ) → Said → ℕ → Type 0
 Played [] s n = Unit {0}
 Played (line ∷ lines) s n =
-    (f : Form) × (r : Reply) × (line_told line ≡ told_of (Ok (Some f))) × ((q : Reply) → FormReply s f n q → q ≡ r) × Played lines (after_form s f) (n + 1)
+    (f : Form) × (r : Reply) × (line_told line ≡ told_of (Ok (Some f))) × FormReply s f n r × Played lines (after_form s f) (n + 1)
 
 -- the text of these replies
 abbrev text_of : (lines : List (List ℕ)) (s : Said) (n : ℕ) → Played lines s n → List ℕ
 text_of [] s n p = []
-text_of (line ∷ lines) s n (f, r, e, only, p) = reply_text r ++ text_of lines (after_form s f) (n + 1) p
+text_of (line ∷ lines) s n (f, r, e, a, p) = reply_text r ++ text_of lines (after_form s f) (n + 1) p
 
-one_text : (lines : List (List ℕ)) (s : Said) (n : ℕ) (t : List ℕ) (p : Played lines s n) → Answered lines s n t → t ≡ text_of lines s n p
-one_text [] s n t p h = h
-one_text (line ∷ lines) s n t (f, r, e, only, p) h =
-    let reading = told_law h.reading (Ok (Some f)) (h.read ∙ e) in
-    let said = only h.reply (subst (λ z. LineReply s z n h.reply) reading h.answered) in
-    let rest = one_text lines (after_form s f) (n + 1) h.rest p (subst (λ z. Answered lines (after_line s z) (n + 1) h.rest) reading h.others) in
-    h.text_is ∙ (λ i. reply_text (said i) ++ rest i)
+played : (lines : List (List ℕ)) (s : Said) (n : ℕ) (p : Played lines s n) → Answered lines s n (text_of lines s n p)
+played [] s n p = refl
+played (line ∷ lines) s n (f, r, e, a, p) = record {
+  reading = Ok (Some f);
+  read = sym e;
+  reply = r;
+  answered = a;
+  rest = text_of lines (after_form s f) (n + 1) p;
+  others = played lines (after_form s f) (n + 1) p;
+  text_is = refl;
+}
 
 -- calls that say nothing --
 
@@ -133,45 +136,147 @@ unfaulted : (cs : List Call) (c : Call) → held_back both 1 2 (ledger both 1 2 
 unfaulted cs c h w f (inl e) = none_some f (sym h ∙ e)
 unfaulted cs c h w f (inr x) = w f x.1
 
-silent : (cs : List Call) (c : Call) (n : ℕ) → held_back both 1 2 (ledger both 1 2 cs) c ≡ None → ((f : Fault) → wrong both 1 2 (ledger both 1 2 cs) c f → ⊥) → (q : Reply) → EntersReply c n q both 1 2 (ledger both 1 2 cs) → q ≡ reply.Nothing
-silent cs c n h w q (Ok x, a, e) = e
-silent cs c n h w q (Err d, (f, k, s), e) = absurd (unfaulted cs c h w f k)
+silent : (cs : List Call) (c : Call) (n : ℕ) → held_back both 1 2 (ledger both 1 2 cs) c ≡ None → ((f : Fault) → wrong both 1 2 (ledger both 1 2 cs) c f → ⊥) → EntersReply c n reply.Nothing both 1 2 (ledger both 1 2 cs)
+silent cs c n h w = (Ok tt, (unfaulted cs c h w, tt), refl)
 
 -- nothing but a 31 is wrong with a run, and no 31 comes
 run_fits : (cs : List Call) (u : ℕ) (es : List Entry) → held_back both 1 2 (ledger both 1 2 cs) (run u es 3920) ≡ None → (f : Fault) → wrong both 1 2 (ledger both 1 2 cs) (run u es 3920) f → ⊥
 run_fits cs u es h f (inl x) = never_31 both both_sound 1 2 (omega arith) cs (run u es 3920) f (inr (h, inl x)) x.0
 run_fits cs u es h f (inr x) = x.1
 
-ran : (cs : List Call) (u : ℕ) (es : List Entry) (n : ℕ) → held_back both 1 2 (ledger both 1 2 cs) (run u es 3920) ≡ None → (q : Reply) → EntersReply (run u es 3920) n q both 1 2 (ledger both 1 2 cs) → q ≡ reply.Nothing
+ran : (cs : List Call) (u : ℕ) (es : List Entry) (n : ℕ) → held_back both 1 2 (ledger both 1 2 cs) (run u es 3920) ≡ None → EntersReply (run u es 3920) n reply.Nothing both 1 2 (ledger both 1 2 cs)
 ran cs u es n h = silent cs (run u es 3920) n h (run_fits cs u es h)
 
 -- the verdicts --
 
--- pays and judgement of a verdict
-judged : (cents : ℕ) (v : Verdict) (uplift gap a b : ℤ) → days.Settled (day_at cents) uplift gap a b → Judged (day_at cents) v → (day_at cents).prices.over ≡ 1 → sum_to 2 (λ u. get_or (a ∷ b ∷ []) u (pos 0)) ≡ uplift → (n : ℕ) (q : Reply) → JudgeAnswer n q both 1 2 (day_at cents) → q ≡ reply.Verdict (record { items = a ∷ b ∷ [] }) (record { verdict = v; uplift = uplift; over = 1; gap = gap; weight = 2 })
-judged cents v uplift gap a b s says one sum n q (Err d, old, new, l, h, e) = absurd (says old new (Err d) (subst (λ z. 2 ≤ z) (sym l) (omega arith)) h)
-judged cents v uplift gap a b s says one sum n q (Ok j, old, new, l, h, e) =
-    let room : 2 ≤ length old = subst (λ z. 2 ≤ z) (sym l) (omega arith) in
-    let each : (u : ℕ) → u < 2 → get_or new u (pos 0) ≡ get_or (a ∷ b ∷ []) u (pos 0) =
-    both_units (λ u. get_or new u (pos 0) ≡ get_or (a ∷ b ∷ []) u (pos 0)) (h.pays.pay 0 (omega arith) ∙ s.first_pay) (h.pays.pay 1 (omega arith) ∙ s.second_pay) in
-    let pays = same_front 2 (pos 0) new (a ∷ b ∷ []) (subst (λ z. 2 ≤ z) (sym h.pays.long) room) (omega arith) each in
-    let verdict = says old new (Ok j) room h in
-    let up = h.pays.adds_up ∙ sum_to_same 2 _ _ each ∙ sum in
-    judged_ok 2 n new j q e
-    ∙ (λ i. reply.Verdict (record { items = pays i }) (record { verdict = verdict i; uplift = up i; over = (h.pays.over ∙ one) i; gap = (h.pays.gap ∙ s.gap_is) i; weight = h.pays.weight i }))
+-- what judge answers with the whole evidence
+record Verdict (l : Ledger) (old new : List ℤ) (j : Judgement) : Type 0 where
+  evidence : Evidence both 1 2 l
+  uplift : j.uplift ≡ uplift_at both 1 l.prices l
+  gap : j.gap ≡ gap_at both 1 l.prices l
+  over : j.over ≡ l.prices.over
+  weight : j.weight ≡ 2
+  pay : (u : ℕ) → u < 2 → get_or new u (pos 0) ≡ pay_of (both.model u) 1 l.prices (run_of l u)
+  room : length old ≡ 64
+  long : length new ≡ length old
+  past : drop 2 new ≡ drop 2 old
+  least : j.verdict ≡ Least → AllBest both 1 l
+  so_least : AllBest both 1 l → j.verdict ≡ Least
+  within : j.verdict ≡ Within → AllBest both 1 l → ⊥
+  so_within : (AllBest both 1 l → ⊥) → j.verdict ≡ Within
 
-least : (n : ℕ) (q : Reply) → JudgeAnswer n q both 1 2 (day_at 6) → q ≡ reply.Verdict (record { items = pos 2 ∷ pos 0 ∷ [] }) (record { verdict = Least; uplift = pos 2; over = 1; gap = pos 0; weight = 2 })
-least = judged 6 Least (pos 2) (pos 0) (pos 2) (pos 0) edge_days.at_six edge_days.says_least refl refl
+judges : (cs : List Call) (old new : List ℤ) (j : Judgement) → ((room : ℕ) → room ≡ 64 → (f : Fault) → Declined both 1 2 (ledger both 1 2 cs) (judge room) f → ⊥) → Verdict (ledger both 1 2 cs) old new j → Judges both 1 2 (ledger both 1 2 cs) old new (Ok j)
+judges cs old new j undeclined v =
+    let l = ledger both 1 2 cs in
+    let k = ledger_law both 1 2 cs in
+    let e = v.evidence in
+    let none : j.verdict ≡ Least → gap_at both 1 l.prices l ≡ pos 0 = λ x. zero_gap both both_sound 1 2 l k (v.least x) in
+    record {
+      answer = (undeclined (length old) v.room, tt);
+      bound = record {
+        bests = bests both both_sound 1 2 l k e;
+        every_row = λ r.
+            subst (λ (u : ℤ). (pos r.over *ℤ (pos 2 *ℤ u -ℤ j.gap)) ≤ℤ (pos l.prices.over *ℤ (pos 2 *ℤ uplift_at both 1 r l))) (sym v.uplift)
+            (subst (λ (g : ℤ). (pos r.over *ℤ (pos 2 *ℤ uplift_at both 1 l.prices l -ℤ g)) ≤ℤ (pos l.prices.over *ℤ (pos 2 *ℤ uplift_at both 1 r l))) (sym v.gap)
+            (every_row both both_sound 1 2 l k e r));
+        no_gap = λ x. v.gap ∙ none x;
+        least = λ x r. subst (λ (u : ℤ). (pos r.over *ℤ u) ≤ℤ (pos l.prices.over *ℤ uplift_at both 1 r l)) (sym v.uplift) (least_row both both_sound 1 2 l k e (omega arith) (none x) r);
+      };
+      pays = record {
+        most = bests both both_sound 1 2 l k e l.prices;
+        pay = v.pay;
+        not_below = λ u lt. subst (λ (z : ℤ). pos 0 ≤ℤ z) (sym (v.pay u lt)) (pay_nonneg both both_sound 1 2 l k e u lt);
+        adds_up = v.uplift ∙ sum_to_same 2 _ _ (λ u lt. sym (v.pay u lt));
+        gap = v.gap;
+        over = v.over;
+        weight = v.weight;
+        long = v.long;
+        past = v.past;
+      };
+      exactly = λ _ _. record {
+        least = λ x. (e, v.least x);
+        so_least = λ _ a. v.so_least a;
+        within = λ x. (e, v.within x);
+        so_within = λ _ n. v.so_within n;
+      };
+      kept = tt;
+    }
 
-within_judged : (n : ℕ) (q : Reply) → JudgeAnswer n q both 1 2 (day_at 5) → q ≡ reply.Verdict (record { items = pos 0 ∷ pos 4 ∷ [] }) (record { verdict = Within; uplift = pos 4; over = 1; gap = pos 4; weight = 2 })
-within_judged = judged 5 Within (pos 4) (pos 4) (pos 0) (pos 4) edge_days.at_five edge_days.says_within refl refl
+abbrev zeros : List ℤ
+zeros = replicate 64 (pos 0)
+
+abbrev pays : ℤ → ℤ → List ℤ
+pays a b = a ∷ b ∷ replicate 62 (pos 0)
+
+-- with the whole evidence nothing is wrong, whatever the room of 64 is called
+undeclined : (cs : List Call) → Evidence both 1 2 (ledger both 1 2 cs) → held_back both 1 2 (ledger both 1 2 cs) (judge 64) ≡ None → (room : ℕ) → room ≡ 64 → (f : Fault) → Declined both 1 2 (ledger both 1 2 cs) (judge room) f → ⊥
+undeclined cs e h room is f d =
+    no_fault both 1 2 (ledger both 1 2 cs) (judge 64) h (none_wrong cs e h) f (subst (λ z. Declined both 1 2 (ledger both 1 2 cs) (judge z) f) is d)
+
+never : {P : Type 0} → ◌≡◌ {A = AVerdict} Within Least → P
+never e = cc
+
+abbrev least_judgement : Judgement
+least_judgement = record { verdict = Least; uplift = pos 2; over = 1; gap = pos 0; weight = 2 }
+
+least : (n : ℕ) → JudgeAnswer n (reply.Verdict (record { items = pos 2 ∷ pos 0 ∷ [] }) least_judgement) both 1 2 (day_at 6)
+least n =
+    let s = edge_days.at_six in
+    let best = edge_days.least in (
+      Ok least_judgement,
+      zeros,
+      pays (pos 2) (pos 0),
+      refl,
+      judges (calls 6 half_off) zeros (pays (pos 2) (pos 0)) least_judgement (undeclined (calls 6 half_off) s.evidence refl) (record {
+        evidence = s.evidence;
+        uplift = sym s.uplift_is;
+        gap = sym s.gap_is;
+        over = refl;
+        weight = refl;
+        pay = both_units _ (sym s.first_pay) (sym s.second_pay);
+        room = refl;
+        long = refl;
+        past = refl;
+        least = λ _. best;
+        so_least = λ _. refl;
+        within = λ x. never (sym x);
+        so_within = λ n. absurd (n best);
+      }),
+      (refl, refl),
+    )
+
+abbrev within_judgement : Judgement
+within_judgement = record { verdict = Within; uplift = pos 4; over = 1; gap = pos 4; weight = 2 }
+
+within : (n : ℕ) → JudgeAnswer n (reply.Verdict (record { items = pos 0 ∷ pos 4 ∷ [] }) within_judgement) both 1 2 (day_at 5)
+within n =
+    let s = edge_days.at_five in (
+      Ok within_judgement,
+      zeros,
+      pays (pos 0) (pos 4),
+      refl,
+      judges (calls 5 half_off) zeros (pays (pos 0) (pos 4)) within_judgement (undeclined (calls 5 half_off) s.evidence refl) (record {
+        evidence = s.evidence;
+        uplift = sym s.uplift_is;
+        gap = sym s.gap_is;
+        over = refl;
+        weight = refl;
+        pay = both_units _ (sym s.first_pay) (sym s.second_pay);
+        room = refl;
+        long = refl;
+        past = refl;
+        least = λ x. never x;
+        so_least = λ a. absurd (not_best a);
+        within = λ _. not_best;
+        so_within = λ _. refl;
+      }),
+      (refl, refl),
+    )
 
 -- supply and show at 5 cents --
 
-supplied : (cs : List Call) → (ledger both 1 2 cs).prices ≡ record { over = 1; numerators = pos 5 ∷ [] } → held_back both 1 2 (ledger both 1 2 cs) (supply 0 3920 3920) ≡ None → (n : ℕ) (q : Reply) → SupplyAnswer 0 n q both 1 2 (ledger both 1 2 cs) → q ≡ reply.Supply 0 (pos 0) (pos 0) (pos 10)
-supplied cs e h n q a =
-    supply_same 0 n q (reply.Supply 0 (pos 0) (pos 0) (pos 10)) both 1 2 (ledger both 1 2 cs) a
-    (Ok (pos 0, pos 0, pos 10), (unfaulted cs (supply 0 3920 3920) h fits, subst (λ r. Supply (both.model 0) 1 r (pos 0, pos 0, pos 10)) (sym e) supply_five), refl)
+supplied : (cs : List Call) → (ledger both 1 2 cs).prices ≡ record { over = 1; numerators = pos 5 ∷ [] } → held_back both 1 2 (ledger both 1 2 cs) (supply 0 3920 3920) ≡ None → (n : ℕ) → SupplyAnswer 0 n (reply.Supply 0 (pos 0) (pos 0) (pos 10)) both 1 2 (ledger both 1 2 cs)
+supplied cs e h n = (Ok (pos 0, pos 0, pos 10), (unfaulted cs (supply 0 3920 3920) h fits, subst (λ r. Supply (both.model 0) 1 r (pos 0, pos 0, pos 10)) (sym e) supply_five), refl)
   where
     fits : (f : Fault) → wrong both 1 2 (ledger both 1 2 cs) (supply 0 3920 3920) f → ⊥
     fits f (inl x) = never_31 both both_sound 1 2 (omega arith) cs (supply 0 3920 3920) f (inr (h, inl x)) x.0
@@ -181,10 +286,8 @@ supplied cs e h n q a =
 abbrev blank : Entry
 blank = record { state = 0; output = pos 0 }
 
-shown : (cs : List Call) → (ledger both 1 2 cs).prices ≡ record { over = 1; numerators = pos 5 ∷ [] } → held_back both 1 2 (ledger both 1 2 cs) (show 0 3920 48) ≡ None → (n : ℕ) (q : Reply) → ShowAnswer 0 n q both 1 2 (ledger both 1 2 cs) → q ≡ reply.Show 0 (record { items = on 1 })
-shown cs e h n q a =
-    show_same 0 n q (reply.Show 0 (record { items = on 1 })) both 1 2 (ledger both 1 2 cs) a
-    (Ok tt, replicate 48 blank, record { state = 0; output = pos 1 } ∷ replicate 47 blank, refl, ((unfaulted cs (show 0 3920 48) h fits, subst (λ r. First (both.model 0) 1 r (on 1)) (sym e) show_five), refl), (refl, refl))
+shown : (cs : List Call) → (ledger both 1 2 cs).prices ≡ record { over = 1; numerators = pos 5 ∷ [] } → held_back both 1 2 (ledger both 1 2 cs) (show 0 3920 48) ≡ None → (n : ℕ) → ShowAnswer 0 n (reply.Show 0 (record { items = on 1 })) both 1 2 (ledger both 1 2 cs)
+shown cs e h n = (Ok tt, replicate 48 blank, record { state = 0; output = pos 1 } ∷ replicate 47 blank, refl, ((unfaulted cs (show 0 3920 48) h fits, subst (λ r. First (both.model 0) 1 r (on 1)) (sym e) show_five), refl), (refl, refl))
   where
     fits : (f : Fault) → wrong both 1 2 (ledger both 1 2 cs) (show 0 3920 48) f → ⊥
     fits f (inl x) = never_31 both both_sound 1 2 (omega arith) cs (show 0 3920 48) f (inr (h, inl x)) x.0
@@ -193,31 +296,44 @@ shown cs e h n q a =
 
 -- the mixes that miss --
 
-same_fault_decline : (d : Decline) (f : Fault) → f ≡ at_place 44 0 → Says Docket f.number f.place d → d ≡ record { cause = MixesMissNeed; place = 0 }
-same_fault_decline d f e s = same_decline d (record { cause = MixesMissNeed; place = 0 }) (s.number ∙ ap (λ (z : Fault). z.number) e) (s.place ∙ ap (λ (z : Fault). z.place) e)
-
-declined : (n : ℕ) (q : Reply) → JudgeAnswer n q both 1 2 short → q ≡ reply.No (record { cause = MixesMissNeed; place = 0 }) n
-declined n q (Ok j, old, new, l, h, e) = absurd (h.answer.0 (at_place 44 0) (subst (λ z. Declined both 1 2 short (judge z) (at_place 44 0)) (sym l) (miss 64 refl)))
-declined n q (Err d, old, new, l, h, e) =
-    let (f, k, s) = h.answer in
-    e ∙ ap (λ z. reply.No z n) (same_fault_decline d f (one_fault both 1 2 short (judge 64) f (at_place 44 0) (subst (λ z. Declined both 1 2 short (judge z) f) l k) (miss 64 refl)) s)
+declined : (n : ℕ) → JudgeAnswer n (reply.No (record { cause = MixesMissNeed; place = 0 }) n) both 1 2 short
+declined n =
+    let d : Decline = record { cause = MixesMissNeed; place = 0 } in (
+      Err d,
+      zeros,
+      zeros,
+      refl,
+      record {
+        answer = (at_place 44 0, miss 64 refl, record { layer = refl; number = refl; place = refl });
+        bound = tt;
+        pays = tt;
+        exactly = λ _ _. record {
+          least = λ x. absurd x;
+          so_least = λ e _. missed.fails (e.mixes_meet 0 (omega arith));
+          within = λ x. absurd x;
+          so_within = λ e _. missed.fails (e.mixes_meet 0 (omega arith));
+        };
+        kept = refl;
+      },
+      refl,
+    )
 
 abbrev worked_played : Played (lines_of worked_day) nothing 1
 worked_played = (
   form.Day 1 2,
   reply.Nothing,
   day_1_2_line,
-  λ q a. a,
+  refl,
   (
     form.Offer (Steam first),
     reply.Nothing,
     first_line,
-    λ q a. a,
+    refl,
     (
       form.Offer (Steam second),
       reply.Nothing,
       second_line,
-      λ q a. a,
+      refl,
       (
         form.Need (record { items = pos 12 ∷ [] }),
         reply.Nothing,
@@ -253,7 +369,7 @@ worked_played = (
                     reply.Nothing,
                     mix_1_1_1_0_line,
                     silent (need (pos 12 ∷ []) ∷ price 1 (pos 6 ∷ []) ∷ run 0 (on 8) 3920 ∷ run 1 (on 4) 3920 ∷ mix 0 2 (on 10) ∷ mix 1 1 (on 4) ∷ []) (mix 1 1 off) 10 refl (λ f x. x),
-                    (form.Judge, reply.Verdict (record { items = pos 2 ∷ pos 0 ∷ [] }) (record { verdict = Least; uplift = pos 2; over = 1; gap = pos 0; weight = 2 }), judge_line, least 11, tt),
+                    (form.Judge, reply.Verdict (record { items = pos 2 ∷ pos 0 ∷ [] }) least_judgement, judge_line, least 11, tt),
                   ),
                 ),
               ),
@@ -265,26 +381,26 @@ worked_played = (
   ),
 )
 
-worked_prints : Prints worked_day worked_text
+worked_settled : Settled worked_day worked_text
 unfolding digits
-worked_prints t h = one_text (lines_of worked_day) nothing 1 t worked_played h
+worked_settled = played (lines_of worked_day) nothing 1 worked_played
 
 abbrev within_played : Played (lines_of within_day) nothing 1
 within_played = (
   form.Day 1 2,
   reply.Nothing,
   day_1_2_line,
-  λ q a. a,
+  refl,
   (
     form.Offer (Steam first),
     reply.Nothing,
     first_line,
-    λ q a. a,
+    refl,
     (
       form.Offer (Steam second),
       reply.Nothing,
       second_line,
-      λ q a. a,
+      refl,
       (
         form.Need (record { items = pos 12 ∷ [] }),
         reply.Nothing,
@@ -332,9 +448,9 @@ within_played = (
                         silent (need (pos 12 ∷ []) ∷ price 1 (pos 5 ∷ []) ∷ supply 0 3920 3920 ∷ show 0 3920 48 ∷ run 0 (on 8) 3920 ∷ run 1 (on 4) 3920 ∷ mix 0 2 (on 10) ∷ mix 1 1 (on 4) ∷ []) (mix 1 1 off) 12 refl (λ f x. x),
                         (
                           form.Judge,
-                          reply.Verdict (record { items = pos 0 ∷ pos 4 ∷ [] }) (record { verdict = Within; uplift = pos 4; over = 1; gap = pos 4; weight = 2 }),
+                          reply.Verdict (record { items = pos 0 ∷ pos 4 ∷ [] }) within_judgement,
                           judge_line,
-                          within_judged 13,
+                          within 13,
                           (
                             form.Supply 0,
                             reply.Supply 0 (pos 0) (pos 0) (pos 10),
@@ -356,26 +472,26 @@ within_played = (
   ),
 )
 
-within_prints : Prints within_day within_text
+within_settled : Settled within_day within_text
 unfolding digits
-within_prints t h = one_text (lines_of within_day) nothing 1 t within_played h
+within_settled = played (lines_of within_day) nothing 1 within_played
 
 abbrev missed_played : Played (lines_of missed_day) nothing 1
 missed_played = (
   form.Day 1 2,
   reply.Nothing,
   day_1_2_line,
-  λ q a. a,
+  refl,
   (
     form.Offer (Steam first),
     reply.Nothing,
     first_line,
-    λ q a. a,
+    refl,
     (
       form.Offer (Steam second),
       reply.Nothing,
       second_line,
-      λ q a. a,
+      refl,
       (
         form.Need (record { items = pos 12 ∷ [] }),
         reply.Nothing,
@@ -417,9 +533,16 @@ missed_played = (
   ),
 )
 
-missed_prints : Prints missed_day missed_text
+missed_settled : Settled missed_day missed_text
 unfolding digits
-missed_prints t h = one_text (lines_of missed_day) nothing 1 t missed_played h
+missed_settled = played (lines_of missed_day) nothing 1 missed_played
+
+prints : (file text : List ℕ) → Settled file text → Prints file text
+prints file text h = record { settled = h; alone = λ t k. one_text file t text k h }
 
 pub file_days : FileDays
-file_days = record { worked = worked_prints; within = within_prints; missed = missed_prints }
+file_days = record {
+  worked = prints worked_day worked_text worked_settled;
+  within = prints within_day within_text within_settled;
+  missed = prints missed_day missed_text missed_settled;
+}

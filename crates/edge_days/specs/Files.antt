@@ -2,9 +2,10 @@
 use Rattle.std.specs.Prelude.{◌≡◌, ℕ, List, codes}
 use Rattle.day.specs.Settling.{Settled}
 
--- whatever text the file may have, it is this one
-abbrev pub Prints : List ℕ → List ℕ → Type 0
-Prints file text = (t : List ℕ) → Settled file t → t ≡ text
+-- the definitions let the file have this text, and no other
+pub record Prints (file text : List ℕ) : Type 0 where
+  pub settled : Settled file text
+  pub alone : (t : List ℕ) → Settled file t → t ≡ text
 
 -- the worked day, at 6 cents
 abbrev pub worked_day : List ℕ

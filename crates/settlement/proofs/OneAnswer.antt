@@ -37,7 +37,7 @@ err_ok d x e = cc
 
 -- a list's first items --
 
-pub same_front : {X : Type 0} (n : ℕ) (d : X) (xs ys : List X) → n ≤ length xs → n ≤ length ys → ((i : ℕ) → i < n → get_or xs i d ≡ get_or ys i d) → take n xs ≡ take n ys
+same_front : {X : Type 0} (n : ℕ) (d : X) (xs ys : List X) → n ≤ length xs → n ≤ length ys → ((i : ℕ) → i < n → get_or xs i d ≡ get_or ys i d) → take n xs ≡ take n ys
 same_front zero d xs ys h k e = refl
 same_front (suc n) d [] ys h k e = absurd (omega arith)
 same_front (suc n) d (x ∷ xs) [] h k e = absurd (omega arith)
