@@ -86,6 +86,11 @@ out_is os u t e = let h = Any-from_list_any (covers u t) os e in (h.0, h.1, h.2,
 
 pub when_out_law : WhenOutLaw
 when_out_law = record {
+  units = λ os m. refl;
+  goes = λ os m u t a e. (
+    λ h. let k = step_kept (out os u t) ((m.model u).arc t a e.state) e.output h in (k.0, λ o. k.1 (is_out os u t o)),
+    λ w. kept_step (out os u t) ((m.model u).arc t a e.state) e.output w.0 (λ d. w.1 (out_is os u t d)),
+  );
   allowed = λ os m u es. (
     λ h. (allowed_below (out os u) (m.model u) 0 (m.model u).start es h, λ t o. zero_out (out os u) (m.model u) 0 (m.model u).start es h t (let i : 0 + t ≡ t = omega arith in ap (out os u) i ∙ is_out os u t o)),
     λ w. allowed_out (out os u) (m.model u) 0 (m.model u).start es w.0 (λ t d. w.1 t (out_is os u t (let i : t ≡ 0 + t = omega arith in ap (out os u) i ∙ d))),

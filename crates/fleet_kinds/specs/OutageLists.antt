@@ -7,7 +7,7 @@ use Rattle.terms.specs.declared.decline.Layer.TheVariants.{Fleet}
 use Rattle.terms.specs.declared.entry.Entry.{Entry}
 use Rattle.fleet.specs.declared.records.Range.{Range}
 use Rattle.fleet.specs.Units.{UnitModel, Meaning, holds}
-use Rattle.fleet.specs.Schedules.{Allowed, cost_of}
+use Rattle.fleet.specs.Schedules.{Goes, Allowed, cost_of}
 use Rattle.fleet_kinds.specs.declared.outages.Outage.{Outage}
 
 abbrev pub covers : ℕ → ℕ → Outage → Bool
@@ -49,9 +49,11 @@ output_in es t = (slice_index_or es t (record { state = 0; output = pos 0 })).ou
 abbrev pub ZeroWhenOut : List Outage → ℕ → List Entry → Type 0
 ZeroWhenOut os u es = (t : ℕ) → Any (Covers u t) os → output_in es t ≡ pos 0
 
--- under outages a unit's schedules are those of the fleet below whose output is 0 whenever the unit is out, at the same
--- cost
+-- under outages the units are those of the fleet below; a unit goes on by an entry where it does below and the output is
+-- 0 if the unit is out; so its schedules are those below whose output is 0 whenever it is out, at the same cost
 pub record WhenOutLaw : Type 0 where
+  pub units : (os : List Outage) (m : Meaning) → (out_meaning os m).units ≡ m.units
+  pub goes : (os : List Outage) (m : Meaning) (u t a : ℕ) (e : Entry) → Goes ((out_meaning os m).model u) t a e ↔ (Goes (m.model u) t a e × (Any (Covers u t) os → e.output ≡ pos 0))
   pub allowed : (os : List Outage) (m : Meaning) (u : ℕ) (es : List Entry) → Allowed ((out_meaning os m).model u) es ↔ (Allowed (m.model u) es × ZeroWhenOut os u es)
   pub cost : (os : List Outage) (m : Meaning) (u : ℕ) (es : List Entry) → Allowed ((out_meaning os m).model u) es → cost_of ((out_meaning os m).model u) es ≡ cost_of (m.model u) es
 
