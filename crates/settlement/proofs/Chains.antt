@@ -13,7 +13,7 @@ use Rattle.fleet.specs.Schedules.{Allowed, FirstBad}
 use Rattle.fleet.specs.Rows.{Fault, row_fault}
 use Rattle.settlement.specs.Ledger.{has, bad_at, check, allow}
 use Rattle.settlement.specs.Reasons.{FirstNot, here, reason, nothing}
-use Rattle.settlement.specs.Entering.{unfit_row}
+use Rattle.settlement.specs.Entering.{row_held_by}
 use Rattle.settlement.proofs.Ledgers.{no_clash, some_none, bad_none, allowed_none, bad_first, first_bad}
 use Rattle.settlement.proofs.OneFault.{same_fault, first_not_one}
 
@@ -137,10 +137,10 @@ module _ {after : Fault → Type 0} where
             let fine : (k : ℕ) → k < T → Fine k = λ k lt. passes k (omega arith) in
             chain_passed 23 (FirstNot T Fine) fine (λ p h. h.fails (fine p h.below)) t
 
-    pub chain_row : Chain after (row_fault T b xs o) ((length xs ≡ T) × (((k : ℕ) → k < T → Fine k) × fit)) (unfit_row T b xs why)
+    pub chain_row : Chain after (row_fault T b xs o) ((length xs ≡ T) × (((k : ℕ) → k < T → Fine k) × fit)) (row_held_by T b xs why)
     chain_row = by (eqb (length xs) T) refl
       where
-        by : (k : Bool) → eqb (length xs) T ≡ k → Chain after (cond k (cond (ltb good (length xs)) (Some (record { number = 23; place = good })) o) (Some (record { number = 22; place = 0 }))) ((length xs ≡ T) × (((k : ℕ) → k < T → Fine k) × fit)) (unfit_row T b xs why)
+        by : (k : Bool) → eqb (length xs) T ≡ k → Chain after (cond k (cond (ltb good (length xs)) (Some (record { number = 23; place = good })) o) (Some (record { number = 22; place = 0 }))) ((length xs ≡ T) × (((k : ℕ) → k < T → Fine k) × fit)) (row_held_by T b xs why)
         by true e = let long = eqb-true (length xs) T e in chain_passed 22 (here 0 (length xs ≢ T)) long (λ p h. h.1 long) (chain_values long)
         by false e = let short = eqb-false (length xs) T e in chain_failed 22 0 (here 0 (length xs ≢ T)) short (refl, short) (λ p h. sym h.0)
 

@@ -4,7 +4,7 @@ use Rattle.fleet.specs.Units.{Meaning}
 use Rattle.fleet.specs.Rows.{Fault}
 use Rattle.settlement.specs.Ledger.{Ledger, Stage, blank, needed, priced, Call, need, price, run, mix, supply, show, judge, is_blank, is_needed, is_priced, weighs, held_back, entered, unless, ledger}
 use Rattle.settlement.specs.Reasons.{nothing, wrong}
-use Rattle.settlement.specs.Entering.{Fits, unfit, FitsLaw, HeldLaw, DeclinedLaw, EntersLaw}
+use Rattle.settlement.specs.Entering.{Fits, held_by, FitsLaw, HeldLaw, DeclinedLaw, EntersLaw}
 use Rattle.settlement.proofs.Ledgers.{some_none, more}
 use Rattle.settlement.proofs.Chains.{Test, test_true, test_false, ran_test, idle_test, below_test, same_test, room_test, rooms_test, weight_test, Chain, chain_end, chain_as, chain_check, chain_allow, chain_row, only_held}
 
@@ -28,7 +28,7 @@ priced_test priced = test_true refl (λ h. h refl)
 -- calls --
 
 module _ (after : Fault → Type 0) (m : Meaning) (T W : ℕ) (l : Ledger) where
-  chain : (c : Call) → Chain after (held_back m T W l c) (Fits m T W l c) (unfit m T W l c after)
+  chain : (c : Call) → Chain after (held_back m T W l c) (Fits m T W l c) (held_by m T W l c after)
   chain (need xs) =
       chain_as
       (chain_check 21 0 (blank_test l.stage)

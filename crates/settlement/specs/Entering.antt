@@ -10,9 +10,9 @@ use Rattle.settlement.specs.Ledger.{Ledger, blank, needed, priced, Call, need, p
 use Rattle.settlement.specs.Evidence.{Ran}
 use Rattle.settlement.specs.Reasons.{FirstNot, here, reason, nothing, wrong, Declined}
 
--- a row that is not T numbers within ±b
-abbrev pub unfit_row : ℕ → ℕ → List ℤ → (Fault → Type 0) → Fault → Type 0
-unfit_row T b xs after =
+-- what holds a row back that is not T numbers within ±b; where nothing does, what comes after
+abbrev pub row_held_by : ℕ → ℕ → List ℤ → (Fault → Type 0) → Fault → Type 0
+row_held_by T b xs after =
     reason 22 (here 0 (length xs ≢ T))
     (reason 23 (FirstNot T (λ t. Near b (slice_index_or xs t (pos 0)))) after)
 
@@ -28,37 +28,37 @@ module _ (m : Meaning) (T W : ℕ) where
   Fits l (judge room) = (l.stage ≡ priced) × (m.units ≤ room)
 
   -- what holds a call back, in rising number; where nothing does, what comes after
-  abbrev pub unfit : Ledger → Call → (Fault → Type 0) → Fault → Type 0
-  unfit l (need xs) after =
+  abbrev pub held_by : Ledger → Call → (Fault → Type 0) → Fault → Type 0
+  held_by l (need xs) after =
       reason 21 (here 0 (l.stage ≢ blank))
-      (unfit_row T 32000 xs after)
-  unfit l (price d ns) after =
+      (row_held_by T 32000 xs after)
+  held_by l (price d ns) after =
       reason 21 (here 0 (l.stage ≢ needed))
-      (unfit_row T 1000000000 ns
+      (row_held_by T 1000000000 ns
       (reason 23 (here T ((d < 1) ⊎ (1000 < d))) after))
-  unfit l (run u es slots) after =
+  held_by l (run u es slots) after =
       reason 21 (here u (l.stage ≢ priced))
       (reason 24 (here u (m.units ≤ u))
       (reason 25 (here u (Ran l u))
       (reason 26 (here u (length es ≢ T))
       (reason 27 (FirstBad (m.model u) es)
       (reason 30 (here u (slots < 3920)) after)))))
-  unfit l (mix u w es) after =
+  held_by l (mix u w es) after =
       reason 21 (here u (l.stage ≢ priced))
       (reason 24 (here u (m.units ≤ u))
       (reason 26 (here u (length es ≢ T))
       (reason 27 (FirstBad (m.model u) es)
       (reason 28 (here u (l.runs u ≡ None))
       (reason 29 (here u ((w < 1) ⊎ (W < w + weighs u l.mixes))) after)))))
-  unfit l (supply u fewer more) after =
+  held_by l (supply u fewer more) after =
       reason 21 (here u (l.stage ≢ priced))
       (reason 24 (here u (m.units ≤ u))
       (reason 30 (here u ((fewer < 3920) ⊎ (more < 3920))) after))
-  unfit l (show u slots room) after =
+  held_by l (show u slots room) after =
       reason 21 (here u (l.stage ≢ priced))
       (reason 24 (here u (m.units ≤ u))
       (reason 30 (here u ((slots < 3920) ⊎ (room < T))) after))
-  unfit l (judge room) after =
+  held_by l (judge room) after =
       reason 21 (here 0 (l.stage ≢ priced))
       (reason 30 (here 0 (room < m.units)) after)
 
@@ -68,11 +68,11 @@ FitsLaw = (m : Meaning) (T W : ℕ) (l : Ledger) (c : Call) → (held_back m T W
 
 -- else the first reason that applies does, with its number and place
 abbrev pub HeldLaw : Type 0
-HeldLaw = (m : Meaning) (T W : ℕ) (l : Ledger) (c : Call) (f : Fault) → (held_back m T W l c ≡ Some f) ↔ unfit m T W l c nothing f
+HeldLaw = (m : Meaning) (T W : ℕ) (l : Ledger) (c : Call) (f : Fault) → (held_back m T W l c ≡ Some f) ↔ held_by m T W l c nothing f
 
 -- all that a call is declined with, in rising number
 abbrev pub DeclinedLaw : Type 0
-DeclinedLaw = (m : Meaning) (T W : ℕ) (l : Ledger) (c : Call) (f : Fault) → Declined m T W l c f ↔ unfit m T W l c (wrong m T W l c) f
+DeclinedLaw = (m : Meaning) (T W : ℕ) (l : Ledger) (c : Call) (f : Fault) → Declined m T W l c f ↔ held_by m T W l c (wrong m T W l c) f
 
 -- a call that fits is entered, and one that does not leaves the ledger as it was
 pub record EntersLaw : Type 0 where
