@@ -1,10 +1,12 @@
 -- Which calls a ledger takes, and why it holds one back. Assumes nothing.
-use Rattle.std.proofs.Common.{◌≡◌, ◌≢◌, ℕ, length, Some, None, Option, refl, ◌∙◌, inl}
+use Rattle.std.proofs.Common.{◌≡◌, ◌≢◌, ℕ, ◌⊎◌, true, false, cond, eqb, length, Some, None, Option, refl, sym, ◌∙◌, subst, inl, inr}
+use Rattle.std.proofs.lemmas.Bool.{cond-true, cond-false}
+use Rattle.std.proofs.lemmas.Bool.Decides.{eqb_tells}
 use Rattle.fleet.specs.Units.{Meaning}
 use Rattle.fleet.specs.Rows.{Fault}
 use Rattle.settlement.specs.Ledger.{Ledger, Stage, blank, needed, priced, Call, need, price, run, mix, supply, show, judge, is_blank, is_needed, is_priced, weighs, held_back, entered, unless, ledger}
 use Rattle.settlement.specs.Reasons.{nothing, wrong}
-use Rattle.settlement.specs.Entering.{Fits, held_by, FitsLaw, HeldLaw, DeclinedLaw, EntersLaw}
+use Rattle.settlement.specs.Entering.{Fits, held_by, FitsLaw, HeldLaw, DeclinedLaw, Leaves, EntersLaw}
 use Rattle.settlement.proofs.Ledgers.{some_none, more}
 use Rattle.settlement.proofs.Chains.{Test, test_true, test_false, ran_test, idle_test, below_test, same_test, room_test, rooms_test, weight_test, Chain, chain_end, chain_as, chain_check, chain_allow, chain_row, only_held}
 
@@ -101,8 +103,29 @@ module _ (m : Meaning) (T W : ℕ) (new old : Ledger) where
   unless_held None h = absurd (h refl)
   unless_held (Some f) h = refl
 
+module _ (m : Meaning) (T W : ℕ) where
+  leaves : (l : Ledger) (c : Call) → Leaves l c (entered m T W l c)
+  leaves l (need xs) = (refl, refl, refl, λ u. refl, refl)
+  leaves l (price d ns) = (refl, refl, refl, λ u. refl, refl)
+  leaves l (run u es slots) = (refl, refl, refl, this (eqb_tells u u), λ v n. other v n (eqb_tells u v), refl)
+    where
+      this : ((eqb u u ≡ true) × (u ≡ u)) ⊎ ((eqb u u ≡ false) × (u ≢ u)) → cond (eqb u u) (Some es) (l.runs u) ≡ Some es
+      this (inl h) = cond-true (eqb u u) (Some es) (l.runs u) h.0
+      this (inr h) = absurd (h.1 refl)
+
+      other : (v : ℕ) → v ≢ u → ((eqb u v ≡ true) × (u ≡ v)) ⊎ ((eqb u v ≡ false) × (u ≢ v)) → cond (eqb u v) (Some es) (l.runs v) ≡ l.runs v
+      other v n (inl h) = absurd (n (sym h.1))
+      other v n (inr h) = cond-false (eqb u v) (Some es) (l.runs v) h.0
+  leaves l (mix u w es) = (refl, refl, refl, λ v. refl, refl)
+  leaves l (supply u fewer more) = refl
+  leaves l (show u slots room) = refl
+  leaves l (judge room) = refl
+
 pub enters_law : EntersLaw
 enters_law = record {
-  fits = λ m T W cs c h. let l = ledger m T W cs in more m T W cs c ∙ unless_free m T W (entered m T W l c) l (held_back m T W l c) ((fits_law m T W l c).1 h);
+  fits = λ m T W cs c h.
+      let l = ledger m T W cs in
+      let is = more m T W cs c ∙ unless_free m T W (entered m T W l c) l (held_back m T W l c) ((fits_law m T W l c).1 h) in
+      subst (Leaves l c) (sym is) (leaves m T W l c);
   others = λ m T W cs c h. let l = ledger m T W cs in more m T W cs c ∙ unless_held m T W (entered m T W l c) l (held_back m T W l c) (λ e. h ((fits_law m T W l c).0 e));
 }

@@ -6,7 +6,7 @@ use Rattle.terms.specs.declared.entry.Entry.{Entry}
 use Rattle.fleet.specs.Units.{Meaning}
 use Rattle.fleet.specs.Schedules.{Schedule, FirstBad}
 use Rattle.fleet.specs.Rows.{Fault, Bounded, SoundPrices}
-use Rattle.settlement.specs.Ledger.{Ledger, blank, needed, priced, Call, need, price, run, mix, supply, show, judge, weighs, Mix, held_back, entered, ledger}
+use Rattle.settlement.specs.Ledger.{Ledger, blank, needed, priced, Call, need, price, run, mix, supply, show, judge, weighs, Mix, held_back, ledger}
 use Rattle.settlement.specs.Evidence.{Ran}
 use Rattle.settlement.specs.Reasons.{FirstNot, here, reason, nothing, wrong, Declined}
 
@@ -74,9 +74,23 @@ HeldLaw = (m : Meaning) (T W : ℕ) (l : Ledger) (c : Call) (f : Fault) → (hel
 abbrev pub DeclinedLaw : Type 0
 DeclinedLaw = (m : Meaning) (T W : ℕ) (l : Ledger) (c : Call) (f : Fault) → Declined m T W l c f ↔ held_by m T W l c (wrong m T W l c) f
 
+-- each unit's run is as it was
+abbrev pub SameRuns : Ledger → Ledger → Type 0
+SameRuns l k = (u : ℕ) → k.runs u ≡ l.runs u
+
+-- the call, entered on the first ledger, leaves the second; a mix counts as often as it is entered
+abbrev pub Leaves : Ledger → Call → Ledger → Type 0
+Leaves l (need xs) k = (k.stage ≡ needed) × (k.needs ≡ xs) × (k.prices ≡ l.prices) × SameRuns l k × (k.mixes ≡ l.mixes)
+Leaves l (price d ns) k = (k.stage ≡ priced) × (k.needs ≡ l.needs) × (k.prices ≡ record { over = d; numerators = ns }) × SameRuns l k × (k.mixes ≡ l.mixes)
+Leaves l (run u es slots) k = (k.stage ≡ l.stage) × (k.needs ≡ l.needs) × (k.prices ≡ l.prices) × (k.runs u ≡ Some es) × ((v : ℕ) → v ≢ u → k.runs v ≡ l.runs v) × (k.mixes ≡ l.mixes)
+Leaves l (mix u w es) k = (k.stage ≡ l.stage) × (k.needs ≡ l.needs) × (k.prices ≡ l.prices) × SameRuns l k × (k.mixes ≡ l.mixes ++ (record { unit = u; weight = w; schedule = es } ∷ []))
+Leaves l (supply u fewer more) k = k ≡ l
+Leaves l (show u slots room) k = k ≡ l
+Leaves l (judge room) k = k ≡ l
+
 -- a call that fits is entered, and one that does not leaves the ledger as it was
 pub record EntersLaw : Type 0 where
-  pub fits : (m : Meaning) (T W : ℕ) (cs : List Call) (c : Call) → Fits m T W (ledger m T W cs) c → ledger m T W (cs ++ (c ∷ [])) ≡ entered m T W (ledger m T W cs) c
+  pub fits : (m : Meaning) (T W : ℕ) (cs : List Call) (c : Call) → Fits m T W (ledger m T W cs) c → Leaves (ledger m T W cs) c (ledger m T W (cs ++ (c ∷ [])))
   pub others : (m : Meaning) (T W : ℕ) (cs : List Call) (c : Call) → (Fits m T W (ledger m T W cs) c → ⊥) → ledger m T W (cs ++ (c ∷ [])) ≡ ledger m T W cs
 
 -- the calls have this one, and it fits the ledger of those before it
