@@ -25,10 +25,10 @@ enough file text h =
       | inr s ↦ subst (λ f. Settled f text) (take_all 65537 file (omega arith)) h
     ]
 
-pub written : {E : Type 0} (r : Result (Unit {0}) E) (input old new : Option (List ℕ)) (read text : List ℕ) → IfSome input (λ file. read ≡ take 65537 file) → Settled read text → OnOk r (Appends old new text) → OnOk r (IfSome input (λ file. WritesText file old new))
+pub written : {E : Type 0} (r : Result (Unit {0}) E) (input old new : Option (List ℕ)) (read text : List ℕ) → IfSome input (λ file. read ≡ take 65537 file) → Settled read text → OnOk r (Appends old new text) → OnOk r (WritesText input old new)
 written (Err e) input old new read text is h a = tt
-written (Ok x) None old new read text is h a = tt
-written (Ok x) (Some file) old new read text is h a = (text, enough file text (subst (λ f. Settled f text) is h), a)
+written (Ok x) None old new read text is h a = record { file = read; is_input = tt; text = text; settled = h; written = a }
+written (Ok x) (Some file) old new read text is h a = record { file = file; is_input = refl; text = text; settled = enough file text (subst (λ f. Settled f text) is h); written = a }
 
 -- what a reader gave of its first 65,537 bytes
 pub taken : (input : Option (List ℕ)) (limit : ℕ) (old read : List ℕ) → limit ≡ 65537 → old ≡ [] → IfSome (option_map (take limit) input) (λ xs. read ≡ old ++ xs) → IfSome input (λ file. read ≡ take 65537 file)

@@ -1,5 +1,5 @@
 -- Each line of a file, by what the forms above it say. Assumes nothing.
-use Rattle.std.specs.Prelude.{◌≡◌, ◌≤◌, ℕ, ◌+◌, List, ◌∷◌, ◌++◌, length, map, Option, Result}
+use Rattle.std.specs.Prelude.{◌≡◌, ◌≤◌, ℕ, ◌+◌, List, ◌∷◌, ◌++◌, length, map, flat_map, Option, Result}
 use Rattle.terms.specs.declared.decline.Decline.{Decline}
 use Rattle.reader.specs.declared.form.Form.{Form}
 use Rattle.reader.specs.Forms.{line_told, told_of}
@@ -11,20 +11,21 @@ use Rattle.day.specs.Answering.{LineReply}
 use Rattle.day.specs.Settling.{Settled}
 use Rattle.day.specs.Runs.{forms_in, Say}
 
--- the line below these is answered, by what they say, and its reply stands in the text
-pub record AnsweredLine (above : List (List ℕ)) (line text : List ℕ) : Type 0 where
-  pub readings : List (Result (Option Form) Decline)
-  pub read_above : map told_of readings ≡ map line_told above
+-- the line that is read so is answered with the reply, by what the forms of the readings above it say
+pub record LineAnswered (above : List (Result (Option Form) Decline)) (reading : Result (Option Form) Decline) (reply : Reply) : Type 0 where
   pub said : Said
-  pub says : Say (forms_in readings) said
-  pub reading : Result (Option Form) Decline
-  pub read : told_of reading ≡ line_told line
-  pub reply : Reply
+  pub says : Say (forms_in above) said
   pub answered : LineReply said reading (1 + length above) reply
-  pub before : List ℕ
-  pub after : List ℕ
-  pub text_is : text ≡ before ++ (reply_text reply ++ after)
 
--- every line of a file that is not too long is answered so
+-- each line is read and has one reply, which answers it, and the replies' texts in their order are the text
+pub record EachAnswered (lines : List (List ℕ)) (text : List ℕ) : Type 0 where
+  pub readings : List (Result (Option Form) Decline)
+  pub read : map told_of readings ≡ map line_told lines
+  pub replies : List Reply
+  pub count : length replies ≡ length lines
+  pub answered : (above below : List (Result (Option Form) Decline)) (reading : Result (Option Form) Decline) (before after : List Reply) (reply : Reply) → readings ≡ above ++ (reading ∷ below) → replies ≡ before ++ (reply ∷ after) → length before ≡ length above → LineAnswered above reading reply
+  pub text_is : text ≡ flat_map reply_text replies
+
+-- so it is of every file that is not too long
 abbrev pub EachLineLaw : Type 0
-EachLineLaw = (file text : List ℕ) → length file ≤ 65536 → Settled file text → (above : List (List ℕ)) (line : List ℕ) (below : List (List ℕ)) → lines_of file ≡ above ++ (line ∷ below) → AnsweredLine above line text
+EachLineLaw = (file text : List ℕ) → length file ≤ 65536 → Settled file text → EachAnswered (lines_of file) text

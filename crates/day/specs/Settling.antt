@@ -1,6 +1,6 @@
 -- A whole file and the text that it is answered with. Assumes nothing.
 use Rattle.std.specs.Io.KnownBytes.{Appends}
-use Rattle.std.specs.Prelude.{◌≡◌, ℕ, ◌+◌, List, [], ◌∷◌, ◌++◌, length, Option, Result, cond, nat_lt}
+use Rattle.std.specs.Prelude.{IfSome, ◌≡◌, ℕ, ◌+◌, List, [], ◌∷◌, ◌++◌, length, Option, Result, cond, nat_lt}
 use Rattle.terms.specs.declared.decline.Decline.{Decline}
 use Rattle.terms.specs.declared.decline.Cause.TheVariants.{FileTooLong}
 use Rattle.reader.specs.declared.form.Form.{Form}
@@ -35,6 +35,11 @@ Settled file text =
 abbrev pub OneTextLaw : Type 0
 OneTextLaw = (file t u : List ℕ) → Settled file t → Settled file u → t ≡ u
 
--- a writer that held these bytes holds the text of the file after them
-abbrev pub WritesText : List ℕ → Option (List ℕ) → Option (List ℕ) → Type 0
-WritesText file old new = (text : List ℕ) × Settled file text × Appends old new text
+-- a file is settled, and a writer that held these bytes holds its text after them; the file is what the reader had, where
+-- that is known
+pub record WritesText (input old new : Option (List ℕ)) : Type 0 where
+  pub file : List ℕ
+  pub is_input : IfSome input (λ bytes. file ≡ bytes)
+  pub text : List ℕ
+  pub settled : Settled file text
+  pub written : Appends old new text
