@@ -6,7 +6,7 @@ use Rattle.std.proofs.lemmas.Bool.{cases_Bool, cond-true, cond-false, both_ways}
 use Rattle.words.specs.declared.classes.Class.{Class}
 use Rattle.words.specs.Classes.{class_of, is_blank, is_bracket, is_joined, is_blank_class, is_joined_class}
 use Rattle.words.specs.Lines.{Word, goes_on, joined, words_from}
-use Rattle.words.specs.WordLaws.{Blanks, IsWord, WordsAre, WordsLaw}
+use Rattle.words.specs.WordLaws.{Blanks, Ends, IsWord, WordsAre, WordsLaw}
 use Rattle.words.proofs.Cuts.{class_joined, class_neither}
 
 not_nothing : {P : Type 0} (b : ℕ) (l : List ℕ) → b ∷ l ≡ [] → P
@@ -22,9 +22,14 @@ never_both b y j = absurd (both_ways _ (class_joined (class_of b) j).blank y)
 bracket_joined : {P : Type 0} (b : ℕ) → is_bracket b ≡ true → is_joined b ≡ true → P
 bracket_joined b y j = absurd (both_ways _ (class_joined (class_of b) j).bracket y)
 
--- blanks do not go on with a word
-blanks_part : (bs : List ℕ) → Blanks bs → goes_on bs ≡ false
-blanks_part [] h = refl
+-- bytes that do not go on with a word end it
+ends_word : (bs : List ℕ) → goes_on bs ≡ false → Ends bs
+ends_word [] e = tt
+ends_word (b ∷ bs) e = e
+
+-- blanks end a word
+blanks_part : (bs : List ℕ) → Blanks bs → Ends bs
+blanks_part [] h = tt
 blanks_part (b ∷ bs) h =
     elim (cases_Bool (is_joined b)) [
       | inl y ↦ never_both b h.0 y
@@ -47,7 +52,7 @@ record Front (p : ℕ) (bs : List ℕ) (w : Word) (ws : List Word) : Type 0 wher
   bytes : bs ≡ w.text ++ rest
   place : w.place ≡ p
   joins : AllByRecursion (λ b. is_joined b ≡ true) w.text
-  parts : goes_on rest ≡ false
+  parts : Ends rest
   others : WordsAre (w.place + length w.text) rest ws
 
 front : (p : ℕ) (bs : List ℕ) (w : Word) (ws : List Word) → goes_on bs ≡ true → WordsAre p bs (w ∷ ws) → Front p bs w ws
@@ -70,7 +75,7 @@ longer p b bs w ws j f =
 joins : (p b : ℕ) (bs : List ℕ) (ws : List Word) (on : Bool) → on ≡ goes_on bs → is_joined b ≡ true → WordsAre (p + 1) bs ws → WordsAre p (b ∷ bs) (joined on p b ws)
 joins p b bs [] on e j h = alone p b bs [] (inr ((λ z. not_nothing b [] z), (j, tt), blanks_part bs h)) h
 joins p b bs (w ∷ ws) true e j h = longer p b bs w ws j (front (p + 1) bs w ws (sym e) h)
-joins p b bs (w ∷ ws) false e j h = alone p b bs (w ∷ ws) (inr ((λ z. not_nothing b [] z), (j, tt), sym e)) h
+joins p b bs (w ∷ ws) false e j h = alone p b bs (w ∷ ws) (inr ((λ z. not_nothing b [] z), (j, tt), ends_word bs (sym e))) h
 
 pub words_law : WordsLaw
 unfolding words_from
