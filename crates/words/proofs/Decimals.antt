@@ -1,5 +1,5 @@
 -- A numeral's text and its value fix each other.
-use Rattle.std.proofs.Common.{◌≡◌, ℕ, zero, suc, ◌+◌, ◌-◌, ◌*◌, ◌^◌, ◌<◌, ◌≤◌, true, false, List, [], ◌∷◌, length, get_or, ℤ, pos, negsuc, neg_ℤ, Some, None, decimal, Option, sym, refl, ap, ◌∙◌, ⊎_elim, arith, rules}
+use Rattle.std.proofs.Common.{◌≡◌, ℕ, zero, suc, ◌+◌, ◌-◌, ◌*◌, ◌^◌, ◌<◌, ◌≤◌, true, false, List, [], ◌∷◌, length, get_or, ℤ, pos, negsuc, neg_ℤ, Some, None, decimal, Option, sym, refl, ap, ◌∙◌, subst, ⊎_elim, arith, rules}
 use Rattle.std.specs.Fmt.{signed_decimal}
 use Rattle.std.specs.Str.{all_ascii_digits}
 use Rattle.std.specs.Char.{is_ascii_digit}
@@ -12,6 +12,7 @@ use Rattle.std.proofs.lemmas.Option.{same_Some}
 use Rattle.words.specs.Classes.{is_bracket}
 use Rattle.words.specs.Grammar.{is_bracket_text}
 use Rattle.words.specs.Numerals.{digits_from, natural_of, value_of, signed_by, signed_of, is_zero}
+use Rattle.words.specs.WordLaws.{NumeralLaw}
 
 abbrev read_on : ℕ → List ℕ → ℕ
 read_on n [] = n
@@ -44,6 +45,7 @@ natural_decimal n h m =
 pub record Says (ds : List ℕ) (n : ℕ) : Type 0 where
   pub text : decimal n ≡ ds
   pub some : 0 < n
+  pub short : n < 10 ^ 10
 
 first_zero : get_or (decimal 0) 0 0 ≡ 48
 first_zero = ap (λ l. get_or l 0 0) (decimal_digit 0 (omega arith))
@@ -55,7 +57,7 @@ natural_says (d ∷ ds) n h l e =
     let few : read_on 0 (d ∷ ds) < 10 ^ 10 = digits_value_short own (d ∷ ds) 10 p.0 l in
     let t : decimal (read_on 0 (d ∷ ds)) ≡ d ∷ ds = decimal-digits_value own (d ∷ ds) p.0 (omega arith) (λ z. absurd (omega arith)) (omega arith) in
     let u : decimal n ≡ d ∷ ds = ap decimal (sym p.1) ∙ t in
-    record { text = u; some = positive n d ds u h }
+    record { text = u; some = positive n d ds u h; short = subst (λ k. k < 10 ^ 10) p.1 few }
   where
     positive : (n d : ℕ) (ds : List ℕ) → decimal n ≡ d ∷ ds → 48 < d → 0 < n
     positive zero d ds u h = absurd (let z : 48 ≡ d = sym first_zero ∙ ap (λ l. get_or l 0 0) u in omega arith)
@@ -118,6 +120,33 @@ decimal_value t z e =
     (λ (y : is_zero t ≡ true). ap signed_decimal (sym (same_Some (pos 0) z (sym (cond-true _ _ _ y) ∙ e))) ∙ decimal_digit 0 (omega arith) ∙ sym (zero_text t y))
     (λ (f : is_zero t ≡ false). signed_text t z (sym (cond-false _ _ _ f) ∙ e))
     (cases_Bool (is_zero t))
+
+natural_short : (o : Option ℕ) (f : ℕ → ℤ) (z : ℤ) → ((n : ℕ) → nat_abs (f n) ≡ n) → ((n : ℕ) → o ≡ Some n → n < 10 ^ 10) → signed_by f o ≡ Some z → nat_abs z < 10 ^ 10
+natural_short None f z a h e = nothing z e
+natural_short (Some n) f z a h e = subst (λ k. k < 10 ^ 10) (sym (a n) ∙ ap nat_abs (same_Some (f n) z e)) (h n refl)
+
+minus_size : (n : ℕ) → nat_abs (neg_ℤ (pos n)) ≡ n
+minus_size zero = refl
+minus_size (suc n) = refl
+
+signed_short : (t : List ℕ) (z : ℤ) → signed_of t ≡ Some z → nat_abs z < 10 ^ 10
+signed_short [] z e = nothing z e
+signed_short (b ∷ ds) z e =
+    ⊎_elim
+    (λ (t : (b == 45) ≡ true). natural_short (natural_of ds) (λ n. neg_ℤ (pos n)) z minus_size (λ n f. (natural_text ds n f).short) (sym (cond-true _ _ _ t) ∙ e))
+    (λ (f : (b == 45) ≡ false). natural_short (natural_of (b ∷ ds)) pos z (λ n. refl) (λ n g. (natural_text (b ∷ ds) n g).short) (sym (cond-false _ _ _ f) ∙ e))
+    (cases_Bool (b == 45))
+
+-- a numeral says a number of at most ten digits
+value_short : (t : List ℕ) (z : ℤ) → value_of t ≡ Some z → nat_abs z < 10 ^ 10
+value_short t z e =
+    ⊎_elim
+    (λ (y : is_zero t ≡ true). subst (λ k. nat_abs k < 10 ^ 10) (same_Some (pos 0) z (sym (cond-true _ _ _ y) ∙ e)) (let h : 0 < 10 ^ 10 = omega arith in h))
+    (λ (f : is_zero t ≡ false). signed_short t z (sym (cond-false _ _ _ f) ∙ e))
+    (cases_Bool (is_zero t))
+
+pub numeral_law : NumeralLaw
+numeral_law t z = ((λ e. (sym (decimal_value t z e), value_short t z e)), (λ h. ap value_of h.0 ∙ value_decimal z h.1))
 
 digit_no_bracket : (c : ℕ) → is_ascii_digit c ≡ true → is_bracket c ≡ false
 digit_no_bracket c e = grind (arith, nat_tests)

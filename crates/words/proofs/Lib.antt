@@ -1,4 +1,5 @@
 pub mod Scans
+pub mod Bytes
 pub mod Cuts
 pub mod Numbers
 pub mod Decimals

@@ -1,10 +1,8 @@
 -- A line is its words. Assumes nothing.
-use Rattle.std.proofs.Common.{◌≡◌, ℕ, ◌+◌, Bool, true, false, cond, List, [], ◌∷◌, ◌++◌, length, sym, refl, ap, ◌∙◌, subst, inl, inr, arith, add-zero}
-use Rattle.std.specs.Prelude.{◌≢◌}
+use Rattle.std.proofs.Common.{◌≡◌, ℕ, ◌+◌, Bool, true, false, List, [], ◌∷◌, ◌++◌, length, sym, refl, ap, ◌∙◌, subst, inl, inr, arith, add-zero}
 use Rattle.std.specs.List.{AllByRecursion}
 use Rattle.std.proofs.lemmas.Bool.{cases_Bool, cond-true, cond-false, both_ways}
-use Rattle.words.specs.declared.classes.Class.{Class}
-use Rattle.words.specs.Classes.{class_of, is_blank, is_bracket, is_joined, is_blank_class, is_joined_class}
+use Rattle.words.specs.Classes.{class_of, is_blank, is_bracket, is_joined}
 use Rattle.words.specs.Lines.{Word, goes_on, joined, words_from}
 use Rattle.words.specs.WordLaws.{Blanks, Ends, IsWord, WordsAre, WordsLaw}
 use Rattle.words.proofs.Cuts.{class_joined, class_neither}
