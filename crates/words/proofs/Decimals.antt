@@ -146,7 +146,7 @@ value_short t z e =
     (cases_Bool (is_zero t))
 
 pub numeral_law : NumeralLaw
-numeral_law t z = ((λ e. (sym (decimal_value t z e), value_short t z e)), (λ h. ap value_of h.0 ∙ value_decimal z h.1))
+numeral_law = record { value = λ t z. ((λ e. (sym (decimal_value t z e), value_short t z e)), (λ h. ap value_of h.0 ∙ value_decimal z h.1)) }
 
 digit_no_bracket : (c : ℕ) → is_ascii_digit c ≡ true → is_bracket c ≡ false
 digit_no_bracket c e = grind (arith, nat_tests)

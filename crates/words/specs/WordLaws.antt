@@ -30,8 +30,8 @@ abbrev pub WordsLaw : Type 0
 WordsLaw = (p : ℕ) (bs : List ℕ) → WordsAre p bs (words_from p bs)
 
 -- the numerals are the decimal texts of the numbers of at most ten digits
-abbrev pub NumeralLaw : Type 0
-NumeralLaw = (t : List ℕ) (z : ℤ) → (value_of t ≡ Some z) ↔ ((t ≡ signed_decimal z) × (nat_abs z < 10 ^ 10))
+pub record NumeralLaw : Type 0 where
+  pub value : (t : List ℕ) (z : ℤ) → (value_of t ≡ Some z) ↔ ((t ≡ signed_decimal z) × (nat_abs z < 10 ^ 10))
 
 -- a to z, 0 to 9, minus, the brackets and blank
 abbrev pub IsKnown : ℕ → Type 0
