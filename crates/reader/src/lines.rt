@@ -2,7 +2,7 @@
 ghost use Rattle.std.specs.Prelude.{◌≡◌};
 ghost use Rattle.words.specs.Answers.{answer_by};
 ghost use Rattle.words.specs.Seen.{state_of};
-ghost use Rattle.words.specs.WordLaws.{WordsLaw};
+ghost use Rattle.words.specs.WordLaws.{BytesLaw, NumeralLaw, WordsLaw};
 ghost use Rattle.reader.specs.Forms.{read_form, read_any, line_of, told_of, line_told};
 ghost use Rattle.reader.specs.LineDeclines.{DeclinesExactly};
 ghost use Rattle.reader.specs.LineLaws.{ReadsExactly, ToldLaw};
@@ -49,14 +49,17 @@ fn read_any(words: &mut Words) -> Result<Form, Decline>
 // What a line says, and nothing where it is blank. Declined with 2, then 3, then with 4 to 7 at the first word that does
 // not fit, and last with 8. A line is read to a form exactly when its words are the words of that form with every numeral
 // in range and numbers that agree, and it is declined with each number exactly where its bytes and words say so. What is
-// told so leaves nothing of the answer open.
-#[tactic(auto, using(crate::proofs::OneReading::told_law, words::proofs::WordLaws::words_law))]
+// told so leaves nothing of the answer open. Last, what the words of a line are, which bytes are what, and which words
+// are numerals.
+#[tactic(auto, using(crate::proofs::OneReading::told_law, words::proofs::WordLaws::words_law, words::proofs::Bytes::bytes_law, words::proofs::Decimals::numeral_law))]
 pub fn read_line(line: &[u8]) -> Result<Option<Form>, Decline>
     ensures answer { told_of result ≡ line_told line.now }
     ensures law { ReadsExactly line.now result }
     ensures declines { DeclinesExactly line.now result }
     ensures told { ToldLaw }
     ensures words { WordsLaw }
+    ensures bytes { BytesLaw }
+    ensures numerals { NumeralLaw }
 {
     check_bytes(line)?;
     let mut words = Words::new(line);
