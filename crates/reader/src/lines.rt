@@ -49,8 +49,8 @@ fn read_any(words: &mut Words) -> Result<Form, Decline>
 // What a line says, and nothing where it is blank. Declined with 2, then 3, then with 4 to 7 at the first word that does
 // not fit, and last with 8. A line is read to a form exactly when its words are the words of that form with every numeral
 // in range and numbers that agree, and it is declined with each number exactly where its bytes and words say so. What is
-// told so leaves nothing of the answer open. Last, what the words of a line are, which bytes are what, and which words
-// are numerals.
+// told so leaves nothing of the answer open. The last three clauses say what the words of a line are, which bytes are
+// what, and which words are numerals.
 #[tactic(auto, using(crate::proofs::OneReading::told_law, words::proofs::WordLaws::words_law, words::proofs::Bytes::bytes_law, words::proofs::Decimals::numeral_law))]
 pub fn read_line(line: &[u8]) -> Result<Option<Form>, Decline>
     ensures answer { told_of result ≡ line_told line.now }
