@@ -2,8 +2,8 @@
 ghost use Rattle.std.specs.Prelude.{◌≡◌};
 ghost use Rattle.fleet.specs.Units.{among};
 
-// The outputs of an arc: from the lowest to the highest. A plain record, the form that the pool fixes: a
-// `RangeInclusive` is no `Copy`, and also says how much of it was gone through.
+// The outputs of an arc: from the lowest to the highest. A `RangeInclusive` is no `Copy`, and also says how much of it
+// was gone through.
 #[derive(Clone, Copy, PartialEq, Eq, Debug)]
 pub struct Range {
     pub lo: i32,

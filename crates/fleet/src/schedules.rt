@@ -41,7 +41,6 @@ pub fn check_schedule<F: Fleet>(
     let mut period = 0;
     let mut cost = 0;
     let mut gain = 0;
-    // The pool fixes this form: the arc by let-else, and the period counted beside the entries.
     for step in schedule {
         let Some(range) = fleet.arc(unit, period, state, step.state) else {
             return Err(Cause::ScheduleNotAllowed.at(period));

@@ -169,8 +169,8 @@ impl<'a, F: Fleet> UnitDay<'a, F> {
         requires best { Best S.Score.scale (of_day F.Fleet.meaning self.now (ToGo S.Score.scale) period from) (Some best) }
         ensures { of_day F.Fleet.meaning self.now (Step S.Score.scale) period from best result }
     {
-        // The pool fixes this form: nested loops left by a label. They always are left by it, so this entry is never the
-        // answer. The best over an arc goes through all of its outputs, this stops at one: the two share `lo..=hi` alone.
+        // The loops always are left by their label, so this entry is never the answer. The best over an arc goes through all
+        // of its outputs, this stops at one: the two share `lo..=hi` alone.
         let mut found = Entry {
             state: 0,
             output: 0,

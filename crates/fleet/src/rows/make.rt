@@ -15,6 +15,7 @@ fn first_beyond(limit: u32, numbers: &[i32]) -> Option<usize>
     numbers.iter().position(|number| !is_near(limit, *number))
 }
 
+// The numbers, and 0 in the places that are not used.
 fn padded(numbers: &[i32]) -> [i32; 48]
     requires { length numbers.now ≤ 48 }
     ensures { result ≡ numbers.now ++ replicate (48 - length numbers.now) (pos 0) }

@@ -17,8 +17,8 @@ use fleet::{FewerLots, Fleet, Gain, MoreLots, first_best};
 use terms::{Cause, Decline, Entry};
 
 impl<F: Fleet> Docket<F> {
-    // A unit's best gain, with the fewest and the most lots among its schedules of that gain: a tuple, the form that
-    // the pool fixes. Declined with 21, 24, 30, 32; 31 cannot come.
+    // A unit's best gain, with the fewest and the most lots among its schedules of that gain. Declined with 21, 24, 30,
+    // 32; 31 cannot come.
     pub fn supply(
         &self,
         unit: usize,
