@@ -193,7 +193,7 @@ step fs nothing f h = nothing_step fs f h
 step fs (begun T W os xs) f h = begun_step fs T W os xs f h
 step fs (opened T W os xs cs) f h = called (fs ++ (f ∷ [])) T W os xs cs (call_of f) (opened_more fs T W os xs cs f h)
 
-says_on : (fs : List Form) (s : Said) (readings : List (Result (Option Form) Decline)) → Say fs s → Say (fs ++ forms_in readings) (fold after_line s readings)
+says_on : (fs : List Form) (s : Said) (outcomes : List (Result (Option Form) Decline)) → Say fs s → Say (fs ++ forms_in outcomes) (fold after_line s outcomes)
 says_on fs s [] h = subst (λ z. Say z s) (sym (append-nil fs)) h
 says_on fs s (Ok None ∷ rs) h = says_on fs s rs h
 says_on fs s (Ok (Some f) ∷ rs) h = subst (λ z. Say z (fold after_line (after_form s f) rs)) (append_assoc fs (f ∷ []) (forms_in rs)) (says_on (fs ++ (f ∷ [])) (after_form s f) rs (step fs s f h))
@@ -260,6 +260,6 @@ one_say fs (opened T W os xs cs) (opened t w ps ys ds) h k = one_opened fs T W t
 
 pub session_law : SessionLaw
 session_law = record {
-  says = λ readings. says_on [] nothing readings (λ T W h. let z = h.1 in absurd (omega arith));
+  says = λ outcomes. says_on [] nothing outcomes (λ T W h. let z = h.1 in absurd (omega arith));
   one = one_say;
 }

@@ -11,7 +11,7 @@ use Rattle.day.specs.Answering.{LineReply}
 use Rattle.day.specs.Settling.{Settled}
 use Rattle.day.specs.Runs.{forms_in, Say}
 
--- the line that is read so is answered with the reply, by what the forms of the readings above it say
+-- the line that is read so is answered with the reply, by what the forms of the lines above it say
 pub record LineAnswered (above : List (Result (Option Form) Decline)) (reading : Result (Option Form) Decline) (reply : Reply) : Type 0 where
   pub said : Said
   pub says : Say (forms_in above) said
@@ -19,11 +19,11 @@ pub record LineAnswered (above : List (Result (Option Form) Decline)) (reading :
 
 -- each line is read and has one reply, which answers it, and the replies' texts in their order are the text
 pub record EachAnswered (lines : List (List ℕ)) (text : List ℕ) : Type 0 where
-  pub readings : List (Result (Option Form) Decline)
-  pub read : map told_of readings ≡ map line_told lines
+  pub outcomes : List (Result (Option Form) Decline)
+  pub read : map told_of outcomes ≡ map line_told lines
   pub replies : List Reply
   pub count : length replies ≡ length lines
-  pub answered : (above below : List (Result (Option Form) Decline)) (reading : Result (Option Form) Decline) (before after : List Reply) (reply : Reply) → readings ≡ above ++ (reading ∷ below) → replies ≡ before ++ (reply ∷ after) → length before ≡ length above → LineAnswered above reading reply
+  pub answered : (above below : List (Result (Option Form) Decline)) (reading : Result (Option Form) Decline) (before after : List Reply) (reply : Reply) → outcomes ≡ above ++ (reading ∷ below) → replies ≡ before ++ (reply ∷ after) → length before ≡ length above → LineAnswered above reading reply
   pub text_is : text ≡ flat_map reply_text replies
 
 -- so it is of every file that is not too long

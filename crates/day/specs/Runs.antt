@@ -18,7 +18,7 @@ form_of (Ok o) = o
 form_of (Err d) = None
 
 abbrev pub forms_in : List (Result (Option Form) Decline) → List Form
-forms_in readings = filter_map form_of readings
+forms_in outcomes = filter_map form_of outcomes
 
 -- what stands in a list of forms --
 
@@ -92,5 +92,5 @@ Say fs (opened T W os xs cs) = SayOpened fs T W os xs cs
 
 -- whatever the lines, what the file has said after them is what their forms say, and forms say one thing
 pub record SessionLaw : Type 0 where
-  pub says : (readings : List (Result (Option Form) Decline)) → Say (forms_in readings) (fold after_line nothing readings)
+  pub says : (outcomes : List (Result (Option Form) Decline)) → Say (forms_in outcomes) (fold after_line nothing outcomes)
   pub one : (fs : List Form) (s t : Said) → Say fs s → Say fs t → s ≡ t

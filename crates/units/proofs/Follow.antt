@@ -26,12 +26,12 @@ held l t a b q h =
       | inl y ↦
           let p = and_parts (nat_lt t 48) _ y in
           let both = and_parts (nat_lt a l.states) _ p.1 in
-          let p2 = and_parts (nat_lt b l.states) _ both.1 in
+          let last = and_parts (nat_lt b l.states) _ both.1 in
           record {
             period = ltb-true t 48 p.0;
             from = ltb-true a l.states both.0;
-            to = ltb-true b l.states p2.0;
-            linked = p2.1;
+            to = ltb-true b l.states last.0;
+            linked = last.1;
             among = sym (ap (λ (o : Option Range). holds o q) (cond-true (joined l t a b) (Some (l.outputs a b)) None y)) ∙ h;
             cost = cond-true (holds (link_arc l t a b) q) (l.charge a b q) (pos 0) h;
           }

@@ -24,8 +24,8 @@ module _ (l : Links) (s : SoundLinks l) where
         | inl y ↦
             let p = and_parts (nat_lt t 48) _ y in
             let both = and_parts (nat_lt a l.states) _ p.1 in
-            let p2 = and_parts (nat_lt b l.states) _ both.1 in
-            subst SoundArc (sym (cond-true (joined l t a b) (Some (l.outputs a b)) None y)) (s.outputs a b (ltb-true a l.states both.0) (ltb-true b l.states p2.0) p2.1)
+            let last = and_parts (nat_lt b l.states) _ both.1 in
+            subst SoundArc (sym (cond-true (joined l t a b) (Some (l.outputs a b)) None y)) (s.outputs a b (ltb-true a l.states both.0) (ltb-true b l.states last.0) last.1)
         | inr z ↦ subst SoundArc (sym (apart t a b z)) tt
       ]
 
