@@ -26,7 +26,7 @@ module _ (p : UnitModel) (sp : SoundUnit p) where
   gain_near r pr es h =
       let short = allowed_short 0 p.start es (omega arith) h in
       let fits = way_fits int_lawful p sp r pr 0 p.start es h in
-      near_more (length es * 1000000000000) 48000000000000 (gain_of p r es) (omega arith) (subst (Near (length es * 1000000000000)) (score_gain p r (λ x. x) int_part 0 p.start es) fits)
+      near_more (length es * 1000000000000) 48000000000000 (gain_of p r es) (omega arith) (subst (Near (length es * 1000000000000)) (score_gain p r (λ x. x) int_part 0 p.start es) fits.0)
 
   pub best_near : (T : ℕ) (r : Prices) → Priced r → (g : ℤ) → BestGain p T r g → Near 48000000000000 g
   best_near T r pr g b = subst (Near 48000000000000) b.attained.gains (gain_near r pr b.by b.attained.scheduled.allowed)

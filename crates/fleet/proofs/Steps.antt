@@ -3,8 +3,8 @@ use Rattle.std.proofs.Common.{◌≡◌, ℕ, suc, ◌+◌, ◌<◌, ◌≤◌, 
 use Rattle.std.proofs.lemmas.Bool.{cases_lt, both_ways}
 use Rattle.terms.specs.declared.entry.Entry.{Entry}
 use Rattle.fleet.specs.Units.{UnitModel, SoundUnit}
-use Rattle.fleet.specs.Schedules.{Prices, AllowedFrom}
-use Rattle.fleet.specs.Scores.{Scale, Lawful}
+use Rattle.fleet.specs.Schedules.{Prices, Goes, AllowedFrom}
+use Rattle.fleet.specs.Scores.{Scale, Fits, Exact, Summed, AddsExactly, Lawful}
 use Rattle.fleet.specs.Table.{Best, better_of, ToGo, Through, Via, Added, worth, score_from}
 use Rattle.fleet.proofs.Arcs.{holds_near, arc_to}
 use Rattle.fleet.proofs.RowFacts.{Priced, near_gain}
@@ -18,18 +18,42 @@ pub record Upto {S : Type 0} (s : Scale S) (p : UnitModel) (r : Prices) (T t a i
 
 module _ {S : Type 0} {s : Scale S} (l : Lawful s) (p : UnitModel) (sp : SoundUnit p) (r : Prices) (pr : Priced r) where
   -- no way adds more than its periods' largest amounts
-  pub way_fits : (t a : ℕ) (way : List Entry) → AllowedFrom p t a way → s.fits (length way) (score_from s p r t a way)
+  entry_fits : (t a : ℕ) (e : Entry) → Goes p t a e → Fits s 1 (worth s p r t a e.state e.output)
+  entry_fits t a e h =
+      let q = e.output in
+      let near = holds_near (p.arc t a e.state) q (sp.arcs t a e.state) h in
+      let gain = near_gain _ q r.over _ (pr.each t) near pr.few (sp.costs t a e.state q) in
+      l.fits_of _ _ (record { gain = gain; lots = near })
+
+  pub way_fits : (t a : ℕ) (way : List Entry) → AllowedFrom p t a way → Fits s (length way) (score_from s p r t a way)
   way_fits t a [] h = l.fits_zero
   way_fits t a (e ∷ es) h =
-      let q = e.output in
-      let near = holds_near (p.arc t a e.state) q (sp.arcs t a e.state) h.0 in
-      let gain = near_gain _ q r.over _ (pr.each t) near pr.few (sp.costs t a e.state q) in
-      let both = l.fits_add 1 (length es) _ _ (l.fits_of _ _ (record { gain = gain; lots = near })) (way_fits (t + 1) e.state es h.1) in
+      let both = l.fits_add 1 (length es) _ _ (entry_fits t a e h.0) (way_fits (t + 1) e.state es h.1) in
       let k : 1 + length es ≡ suc (length es) = omega arith in
-      subst (λ m. s.fits m (score_from s p r t a (e ∷ es))) k both
+      subst (λ m. Fits s m (score_from s p r t a (e ∷ es))) k both
 
-  pub togo_fits : (T t a : ℕ) (x : S) → T ≤ 48 → 0 < t → ToGo s p r T t a x → (k : ℕ) × (k < 48) × s.fits k x
-  togo_fits T t a x few later h = let long = h.long in (length h.way, omega arith, subst (s.fits (length h.way)) h.score (way_fits t a h.way h.allowed))
+  way_summed : (t a : ℕ) (way : List Entry) → AllowedFrom p t a way → Summed s (length way) (score_from s p r t a way)
+  way_summed t a [] h = record { amounts = []; few = omega arith; each = tt; sum = refl }
+  way_summed t a (e ∷ es) h =
+      let w = worth s p r t a e.state e.output in
+      let rest = way_summed (t + 1) e.state es h.1 in
+      let few = rest.few in
+      record { amounts = w ∷ rest.amounts; few = omega arith; each = (entry_fits t a e h.0, rest.each); sum = ap (s.add w) rest.sum }
+
+  -- what is to go after the first period
+  pub togo_summed : (T t a : ℕ) (x : S) → T ≤ 48 → 0 < t → ToGo s p r T t a x → Summed s 47 x
+  togo_summed T t a x few later h =
+      let long = h.long in
+      let way = way_summed t a h.way h.allowed in
+      let fewer = way.few in
+      record { amounts = way.amounts; few = omega arith; each = way.each; sum = way.sum ∙ h.score }
+
+module _ {S : Type 0} {s : Scale S} (l : Lawful s) (adds : AddsExactly s) where
+  pub one_exact : (a : S) → Fits s 1 a → Exact s a
+  one_exact a h = subst (Exact s) (l.right a) (adds (a ∷ []) (omega arith) (h, tt))
+
+  pub sum_exact : (a b : S) → Fits s 1 a → Summed s 47 b → Exact s (s.add a b)
+  sum_exact a b h k = let few = k.few in subst (λ z. Exact s (s.add a z)) k.sum (adds (a ∷ k.amounts) (omega arith) (h, k.each))
 
 module _ {S : Type 0} {s : Scale S} (l : Lawful s) (p : UnitModel) (sp : SoundUnit p) (r : Prices) where
   pub via_best : (T t a b : ℕ) (rest : S) (o : Option S) → Best s (ToGo s p r T (t + 1) b) (Some rest) → Best s (Added s p r t a b (p.arc t a b) rest) o → Best s (Via s p r T t a b) o

@@ -1,7 +1,8 @@
 -- From the best by two scores to the supply, and that there is only one. Assumes nothing.
-use Rattle.std.proofs.Common.{◌≡◌, ℕ, ◌*◌, Bool, true, false, List, length, ℤ, pos, ◌+ℤ◌, ◌≤ℤ◌, Some, sym, refl, ap, ◌∙◌, subst, arith}
+use Rattle.std.proofs.Common.{◌≡◌, ℕ, ◌*◌, Bool, true, false, List, length, ℤ, pos, ◌+ℤ◌, ◌≤ℤ◌, Some, sym, refl, ap, ◌∙◌, subst, arith, lit<, w64, SFits as FitsSigned}
 use Rattle.std.proofs.lemmas.Int.{ints}
 use Rattle.terms.specs.Numbers.{Near}
+use Rattle.terms.proofs.Bounds.{fits_64}
 use Rattle.terms.proofs.Ints.{both_le}
 use Rattle.terms.specs.declared.entry.Entry.{Entry}
 use Rattle.fleet.specs.declared.rows.PriceRow.{PriceRow}
@@ -10,7 +11,7 @@ use Rattle.fleet.specs.Units.{UnitModel, SoundUnit}
 use Rattle.fleet.specs.Schedules.{Prices, lots_of}
 use Rattle.fleet.specs.Gains.{Gains, BestGain, Supply, SupplyLaw}
 use Rattle.fleet.specs.Rows.{prices_of, periods_of}
-use Rattle.fleet.specs.Scores.{turned, lots_scale}
+use Rattle.fleet.specs.Scores.{turned, lots_limit, lots_scale}
 use Rattle.fleet.specs.Table.{Best, ToGo, score_from}
 use Rattle.fleet.specs.ScoreLaws.{lots_lawful, lexical_first, lexical_second}
 use Rattle.fleet.proofs.RowFacts.{row_priced}
@@ -38,15 +39,19 @@ lots f = record { none = turned_none f; sum = λ a b. turned_sum f a.rank b.rank
 lowest : (x y : ℤ) → x ≤ℤ y → turned true y ≤ℤ turned true x
 lowest x y h = omega (arith, ints)
 
+turned_held : (f : Bool) (q : ℤ) → Near (48 * lots_limit) q → FitsSigned w64 (turned f q)
+turned_held false q h = fits_64 (48 * lots_limit) q (lit< tt) h
+turned_held true q h = fits_64 (48 * lots_limit) (turned true q) (lit< tt) (record { low = omega (arith, ints); high = omega (arith, ints) })
+
 -- the lots of a best score are within those of 48 periods
-pub rank_near : {n : ℕ} (f : Bool) (p : UnitModel) → SoundUnit p → (row : PriceRow) (x : ByLots n) → Best (lots_scale f) (ToGo (lots_scale f) p (prices_of row) (periods_of row) 0 p.start) (Some x) → Near 24000 x.rank
-rank_near f p sp row x h =
+pub lots_held : {n : ℕ} (f : Bool) (p : UnitModel) → SoundUnit p → (row : PriceRow) (x : ByLots n) → Best (lots_scale f) (ToGo (lots_scale f) p (prices_of row) (periods_of row) 0 p.start) (Some x) → FitsSigned w64 (turned f x.rank)
+lots_held f p sp row x h =
     let long = h.0.long in
     let short = row.numerators.short in
-    let fits : Near (length h.0.way * 500) x.rank = subst (λ y. Near (length h.0.way * 500) y.rank) h.0.score (way_fits (lots_lawful f) p sp (prices_of row) (row_priced row) 0 p.start h.0.way h.0.allowed).1 in
+    let fits : Near (length h.0.way * lots_limit) x.rank = subst (λ y. Near (length h.0.way * lots_limit) y.rank) h.0.score (way_fits (lots_lawful f) p sp (prices_of row) (row_priced row) 0 p.start h.0.way h.0.allowed).1.0 in
     let low = fits.low in
     let high = fits.high in
-    record { low = omega (arith, ints); high = omega (arith, ints) }
+    turned_held f x.rank (record { low = omega (arith, ints); high = omega (arith, ints) })
 
 module _ (p : UnitModel) (r : Prices) (T : ℕ) {n m : ℕ} (least : ByLots n) (most : ByLots m) (h : Best (lots_scale true) (ToGo (lots_scale true) p r T 0 p.start) (Some least)) (k : Best (lots_scale false) (ToGo (lots_scale false) p r T 0 p.start) (Some most)) where
   fewest : BestGain p T r least.gain

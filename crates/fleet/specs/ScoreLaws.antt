@@ -1,10 +1,31 @@
 -- The laws of the scores. Assumes nothing.
-use Rattle.std.specs.Prelude.{◌≡◌, ℕ, ◌+◌, ◌*◌, Bool, true, false, ℤ, pos, ◌+ℤ◌, ◌≤ℤ◌, int_le}
-use Rattle.std.proofs.Common.{ap, arith, add-mul}
+use Rattle.std.specs.Prelude.{◌≡◌, ℕ, ◌+◌, ◌*◌, ◌≤◌, suc, Bool, true, false, List, [], ◌∷◌, length, ℤ, pos, ◌+ℤ◌, ◌≤ℤ◌, int_le, unsigned_abs}
+use Rattle.std.specs.List.{AllByRecursion}
+use Rattle.std.proofs.Common.{ap, subst, arith, add-mul, lit<}
+use Rattle.std.proofs.Math.Nat.{mul-le-mul_right}
 use Rattle.std.proofs.Math.IntN.{+ℤ_assoc, +ℤ_idl, +ℤ_idr}
 use Rattle.std.proofs.lemmas.Int.{ints}
 use Rattle.terms.specs.Numbers.{Near}
-use Rattle.fleet.specs.Scores.{Scale, Lawful, turned, gain_scale, lots_scale, lexical}
+use Rattle.terms.proofs.Bounds.{near_more, fits_64}
+use Rattle.fleet.specs.Scores.{Scale, EachWithin, Fits, total, AddsExactly, Lawful, gain_limit, lots_limit, turned, gain_scale, lots_scale, lexical}
+
+-- what is within some periods' amounts is within those of more
+within_more : (j k : ℕ) (ms zs : List ℤ) → j ≤ k → EachWithin j ms zs → EachWithin k ms zs
+within_more j k [] [] le h = tt
+within_more j k [] (z ∷ zs) le h = h
+within_more j k (m ∷ ms) [] le h = h
+within_more j k (m ∷ ms) (z ∷ zs) le h = (near_more (j * unsigned_abs m) (k * unsigned_abs m) z (mul-le-mul_right (unsigned_abs m) le) h.0, within_more j k ms zs le h.1)
+
+module _ {S : Type 0} {s : Scale S} (l : Lawful s) where
+  total_fits : (xs : List S) → AllByRecursion (Fits s 1) xs → Fits s (length xs) (total s xs)
+  total_fits [] h = l.fits_zero
+  total_fits (x ∷ xs) h =
+      let e : 1 + length xs ≡ suc (length xs) = omega arith in
+      subst (λ k. Fits s k (s.add x (total s xs))) e (l.fits_add 1 (length xs) x (total s xs) h.0 (total_fits xs h.1))
+
+  -- 48 amounts that one period may add, of any score, add exactly
+  pub adds_exactly : AddsExactly s
+  adds_exactly xs few h = l.exact (total s xs) (within_more (length xs) 48 (s.numbers s.largest) (s.numbers (total s xs)) few (total_fits xs h))
 
 none_near : (k : ℕ) → Near (0 * k) (pos 0)
 none_near k = record { low = omega (arith, ints); high = omega (arith, ints) }
@@ -39,7 +60,7 @@ le_less_left c a b h = grind (arith, ints)
 le_less_right : (c a b : ℤ) → int_le b a ≡ false → int_le (b +ℤ c) (a +ℤ c) ≡ false
 le_less_right c a b h = grind (arith, ints)
 
-gain_tops : (g : ℤ) → Near (1 * 1000000000000) g → int_le g (pos 1000000000000) ≡ true
+gain_tops : (g : ℤ) → Near (1 * gain_limit) g → int_le g (pos gain_limit) ≡ true
 gain_tops g h = let high = h.high in grind (arith, ints)
 
 pub gain_lawful : Lawful gain_scale
@@ -54,11 +75,12 @@ gain_lawful = record {
   keeps_right = λ c a b. le_right c.gain a.gain b.gain;
   less_left = λ c a b. le_less_left c.gain a.gain b.gain;
   less_right = λ c a b. le_less_right c.gain a.gain b.gain;
-  fits_largest = one_near 1000000000000 (pos 1000000000000) (largest_near 1000000000000);
-  tops = λ a h. gain_tops a.gain h;
-  fits_zero = none_near 1000000000000;
-  fits_of = λ g q h. one_near 1000000000000 g h.gain;
-  fits_add = λ m n a b. sum_near 1000000000000 m n a.gain b.gain;
+  fits_largest = (one_near gain_limit (pos gain_limit) (largest_near gain_limit), tt);
+  tops = λ a h. gain_tops a.gain h.0;
+  fits_of = λ g q h. (one_near gain_limit g h.gain, tt);
+  fits_zero = (none_near gain_limit, tt);
+  fits_add = λ m n a b h k. (sum_near gain_limit m n a.gain b.gain h.0 k.0, tt);
+  exact = λ a h. (fits_64 (48 * gain_limit) a.gain (lit< tt) h.0, tt);
 }
 
 lex_total : (a x b y : ℤ) → lexical a x b y ≡ false → lexical b y a x ≡ true
@@ -85,7 +107,7 @@ lex_less_left c z a x b y h = grind (arith, ints)
 lex_less_right : (c z a x b y : ℤ) → lexical b y a x ≡ false → lexical (b +ℤ c) (y +ℤ z) (a +ℤ c) (x +ℤ z) ≡ false
 lex_less_right c z a x b y h = grind (arith, ints)
 
-more_tops : (g q : ℤ) → Near (1 * 1000000000000) g → Near (1 * 500) q → lexical g q (pos 1000000000000) (pos 500) ≡ true
+more_tops : (g q : ℤ) → Near (1 * gain_limit) g → Near (1 * lots_limit) q → lexical g q (pos gain_limit) (pos lots_limit) ≡ true
 more_tops g q h k = let a = h.high in let b = k.high in grind (arith, ints)
 
 pub pair : {A B X : Type 0} (f : A → B → X) {a a' : A} {b b' : B} → a ≡ a' → b ≡ b' → f a b ≡ f a' b'
@@ -107,11 +129,12 @@ lots_lawful fewer = record {
   keeps_right = λ c a b. lex_right c.gain c.rank a.gain a.rank b.gain b.rank;
   less_left = λ c a b. lex_less_left c.gain c.rank a.gain a.rank b.gain b.rank;
   less_right = λ c a b. lex_less_right c.gain c.rank a.gain a.rank b.gain b.rank;
-  fits_largest = (one_near 1000000000000 (pos 1000000000000) (largest_near 1000000000000), one_near 500 (pos 500) (largest_near 500));
-  tops = λ a h. more_tops a.gain a.rank h.0 h.1;
-  fits_zero = (none_near 1000000000000, none_near 500);
-  fits_of = λ g q h. (one_near 1000000000000 g h.gain, one_near 500 (turned fewer q) (turned_near fewer 500 q h.lots));
-  fits_add = λ m n a b h k. (sum_near 1000000000000 m n a.gain b.gain h.0 k.0, sum_near 500 m n a.rank b.rank h.1 k.1);
+  fits_largest = (one_near gain_limit (pos gain_limit) (largest_near gain_limit), (one_near lots_limit (pos lots_limit) (largest_near lots_limit), tt));
+  tops = λ a h. more_tops a.gain a.rank h.0 h.1.0;
+  fits_of = λ g q h. (one_near gain_limit g h.gain, (one_near lots_limit (turned fewer q) (turned_near fewer lots_limit q h.lots), tt));
+  fits_zero = (none_near gain_limit, (none_near lots_limit, tt));
+  fits_add = λ m n a b h k. (sum_near gain_limit m n a.gain b.gain h.0 k.0, (sum_near lots_limit m n a.rank b.rank h.1.0 k.1.0, tt));
+  exact = λ a h. (fits_64 (48 * gain_limit) a.gain (lit< tt) h.0, (fits_64 (48 * lots_limit) a.rank (lit< tt) h.1.0, tt));
 }
 
 -- whole numbers, as the gain alone
@@ -121,8 +144,8 @@ int_scale = record {
   zero = pos 0;
   add = ◌+ℤ◌;
   at_most = int_le;
-  largest = pos 1000000000000;
-  fits = λ k a. Near (k * 1000000000000) a;
+  largest = pos gain_limit;
+  numbers = λ a. a ∷ [];
 }
 
 pub int_lawful : Lawful int_scale
@@ -137,11 +160,12 @@ int_lawful = record {
   keeps_right = le_right;
   less_left = le_less_left;
   less_right = le_less_right;
-  fits_largest = one_near 1000000000000 (pos 1000000000000) (largest_near 1000000000000);
-  tops = gain_tops;
-  fits_zero = none_near 1000000000000;
-  fits_of = λ g q h. one_near 1000000000000 g h.gain;
-  fits_add = sum_near 1000000000000;
+  fits_largest = (one_near gain_limit (pos gain_limit) (largest_near gain_limit), tt);
+  tops = λ a h. gain_tops a h.0;
+  fits_of = λ g q h. (one_near gain_limit g h.gain, tt);
+  fits_zero = (none_near gain_limit, tt);
+  fits_add = λ m n a b h k. (sum_near gain_limit m n a b h.0 k.0, tt);
+  exact = λ a h. (fits_64 (48 * gain_limit) a (lit< tt) h.0, tt);
 }
 
 pub lexical_first : (a x b y : ℤ) → lexical a x b y ≡ true → a ≤ℤ b

@@ -1,5 +1,7 @@
 -- What a score stands for, its laws, and the scores. Assumes nothing.
-use Rattle.std.specs.Prelude.{◌≡◌, ℕ, ◌+◌, ◌*◌, Bool, true, false, cond, ℤ, pos, ◌+ℤ◌, neg_ℤ, int_le, int_lt}
+use Rattle.std.specs.Prelude.{◌≡◌, ℕ, ◌+◌, ◌*◌, ◌≤◌, Bool, true, false, cond, List, [], ◌∷◌, length, ℤ, pos, ◌+ℤ◌, neg_ℤ, int_le, int_lt, unsigned_abs, FitsSigned}
+use Rattle.std.specs.Int.{w64}
+use Rattle.std.specs.List.{AllByRecursion}
 use Rattle.terms.specs.Numbers.{Near}
 use Rattle.fleet.specs.declared.scores.Gain.{Gain}
 use Rattle.fleet.specs.declared.scores.ByLots.{ByLots}
@@ -12,8 +14,39 @@ pub record Scale (S : Type 0) : Type 1 where
   pub at_most : S → S → Bool
   -- the largest amount that one period may add
   pub largest : S
-  -- no further from zero than k periods can come
-  pub fits : ℕ → S → Type 0
+  -- the whole numbers that a score is made of
+  pub numbers : S → List ℤ
+
+-- each number is no further from zero than k times the one in its place
+abbrev pub EachWithin : ℕ → List ℤ → List ℤ → Type 0
+EachWithin k [] [] = Unit {0}
+EachWithin k [] (z ∷ zs) = ⊥
+EachWithin k (m ∷ ms) [] = ⊥
+EachWithin k (m ∷ ms) (z ∷ zs) = Near (k * unsigned_abs m) z × EachWithin k ms zs
+
+-- a score is no further from zero than k times the largest amount that one period may add
+abbrev pub Fits : {S : Type 0} → Scale S → ℕ → S → Type 0
+Fits s k a = EachWithin k (s.numbers s.largest) (s.numbers a)
+
+-- signed 64 bits hold each of its numbers
+abbrev pub Exact : {S : Type 0} → Scale S → S → Type 0
+Exact s a = AllByRecursion (FitsSigned w64) (s.numbers a)
+
+-- what amounts come to
+abbrev pub total : {S : Type 0} → Scale S → List S → S
+total s [] = s.zero
+total s (x ∷ xs) = s.add x (total s xs)
+
+-- amounts that one period may add, up to 48 of them, add exactly
+abbrev pub AddsExactly : {S : Type 0} → Scale S → Type 0
+AddsExactly {S} s = (xs : List S) → length xs ≤ 48 → AllByRecursion (Fits s 1) xs → Exact s (total s xs)
+
+-- what at most k such amounts come to
+pub record Summed {S : Type 0} (s : Scale S) (k : ℕ) (x : S) : Type 0 where
+  pub amounts : List S
+  pub few : length amounts ≤ k
+  pub each : AllByRecursion (Fits s 1) amounts
+  pub sum : total s amounts ≡ x
 
 -- how far an entry's gain and lots can be from zero at a checked price row
 abbrev pub gain_limit : ℕ
@@ -39,12 +72,14 @@ pub record Lawful {S : Type 0} (s : Scale S) : Type 0 where
   -- and less, which is not at most the other way round
   pub less_left : (c a b : S) → s.at_most b a ≡ false → s.at_most (s.add c b) (s.add c a) ≡ false
   pub less_right : (c a b : S) → s.at_most b a ≡ false → s.at_most (s.add b c) (s.add a c) ≡ false
-  -- one period may add the largest amount, and none that is larger
-  pub fits_largest : s.fits 1 s.largest
-  pub tops : (a : S) → s.fits 1 a → s.at_most a s.largest ≡ true
-  pub fits_zero : s.fits 0 s.zero
-  pub fits_of : (g q : ℤ) → Amount g q → s.fits 1 (s.of g q)
-  pub fits_add : (m n : ℕ) (a b : S) → s.fits m a → s.fits n b → s.fits (m + n) (s.add a b)
+  -- one period may add the largest amount, and none that is larger; its entry's gain and lots are no more
+  pub fits_largest : Fits s 1 s.largest
+  pub tops : (a : S) → Fits s 1 a → s.at_most a s.largest ≡ true
+  pub fits_of : (g q : ℤ) → Amount g q → Fits s 1 (s.of g q)
+  -- as often as periods add, as often the largest amount
+  pub fits_zero : Fits s 0 s.zero
+  pub fits_add : (m n : ℕ) (a b : S) → Fits s m a → Fits s n b → Fits s (m + n) (s.add a b)
+  pub exact : (a : S) → Fits s 48 a → Exact s a
 
 abbrev pub gain_scale : Scale Gain
 gain_scale = record {
@@ -53,7 +88,7 @@ gain_scale = record {
   add = λ a b. record { gain = a.gain +ℤ b.gain };
   at_most = λ a b. int_le a.gain b.gain;
   largest = record { gain = pos gain_limit };
-  fits = λ k a. Near (k * gain_limit) a.gain;
+  numbers = λ a. a.gain ∷ [];
 }
 
 -- by the first number, then by the second
@@ -73,7 +108,7 @@ lots_scale fewer = record {
   add = λ a b. record { gain = a.gain +ℤ b.gain; rank = a.rank +ℤ b.rank };
   at_most = λ a b. lexical a.gain a.rank b.gain b.rank;
   largest = record { gain = pos gain_limit; rank = pos lots_limit };
-  fits = λ k a. Near (k * gain_limit) a.gain × Near (k * lots_limit) a.rank;
+  numbers = λ a. a.gain ∷ a.rank ∷ [];
 }
 
 -- the two types of it: FEWER is false, which counts as 0, or true, which counts as 1

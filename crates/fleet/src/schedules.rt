@@ -3,6 +3,7 @@ ghost use Rattle.std.specs.Prelude.{◌≡◌, ◌≤◌, ℤ, pos, ◌-ℤ◌, 
 ghost use Rattle.terms.specs.Numbers.{Near};
 ghost use Rattle.fleet.specs.Rows.{prices_of};
 ghost use Rattle.fleet.specs.Answers.{Checked};
+ghost use Rattle.fleet.specs.Scores.{gain_limit};
 
 use crate::fleets::Fleet;
 use crate::rows::PriceRow;
@@ -22,7 +23,7 @@ pub(crate) fn gain_of(numerator: i32, output: i32, over: u32, cost: i32) -> i64
     requires over { over ≤ 1000 }
     requires cost { Near 500000000 cost }
     ensures gain { result ≡ (numerator *ℤ output) -ℤ (pos over *ℤ cost) }
-    ensures bounded { Near 1000000000000 result }
+    ensures bounded { Near gain_limit result }
 {
     i64::from(numerator) * i64::from(output) - i64::from(over) * i64::from(cost)
 }

@@ -1,17 +1,17 @@
 // Scores: what the search maximises.
-ghost use Rattle.std.specs.Prelude.{◌≡◌, ℕ, ◌<◌};
+ghost use Rattle.std.specs.Prelude.{◌≡◌, FitsSigned};
+ghost use Rattle.std.specs.Int.{w64};
 ghost use Rattle.std.specs.Ordering.{partial_le};
 ghost use Rattle.std.proofs.Common.{rules};
-ghost use Rattle.terms.specs.Numbers.{Near};
-ghost use Rattle.fleet.specs.Scores.{Scale, Lawful, turned, gain_scale, lots_scale};
-ghost use Rattle.fleet.specs.ScoreLaws.{gain_lawful, lots_lawful};
+ghost use Rattle.fleet.specs.Scores.{Scale, Exact, AddsExactly, Lawful, turned, gain_scale, lots_scale};
+ghost use Rattle.fleet.specs.ScoreLaws.{gain_lawful, lots_lawful, adds_exactly};
 
 // A score is made of an entry's gain and lots, and is added up over the day. Its scale says what it stands for.
 pub trait Score: Copy + Ord {
     ghost scale: { Scale Self };
 
     fn of(gain: i64, lots: i32) -> Self
-        requires { scale.fits 1 (scale.of gain lots) }
+        requires { Exact scale (scale.of gain lots) }
         ensures { result ≡ scale.of gain lots };
 
     fn zero() -> Self
@@ -21,16 +21,24 @@ pub trait Score: Copy + Ord {
     fn largest() -> Self
         ensures { result ≡ scale.largest };
 
-    // One period's score and that of fewer than 48 others: the largest amount of 48 periods still adds exactly.
     fn plus(self, other: Self) -> Self
-        requires { (k : ℕ) × (k < 48) × scale.fits 1 self × scale.fits k other }
+        requires { Exact scale (scale.add self other) }
         ensures { result ≡ scale.add self other };
 
     ghost lawful: { Lawful scale };
 
+    // Up to 48 amounts that one period may add, none beyond the largest, come to an exact sum.
+    ghost exact: { AddsExactly scale };
+
     // The scale's order is that of `<=`.
     ghost ordered: { (a b : Self) → partial_le Self.partial_cmp a b ≡ scale.at_most a b };
 }
+
+// The most that an entry gains: 500 lots at 1,000,000,000, and as much for 1,000 times 500,000,000 cents saved.
+const MOST_GAIN: i64 = 1_000_000_000_000;
+
+// The most lots of an entry.
+const MOST_LOTS: i64 = 500;
 
 // The gain alone.
 #[derive(Clone, Copy, PartialEq, Eq, PartialOrd, Ord, Debug)]
@@ -42,6 +50,8 @@ impl Score for Gain {
     ghost scale = { gain_scale };
 
     ghost lawful = { gain_lawful };
+
+    ghost exact = { adds_exactly gain_lawful };
 
     ghost ordered = { Prim.search rules };
 
@@ -55,9 +65,7 @@ impl Score for Gain {
     }
 
     fn largest() -> Gain {
-        Gain {
-            gain: 1_000_000_000_000,
-        }
+        Gain { gain: MOST_GAIN }
     }
 
     fn plus(self, other: Gain) -> Gain {
@@ -80,7 +88,7 @@ pub type FewerLots = ByLots<true>;
 
 impl<const FEWER: bool> ByLots<FEWER> {
     pub(crate) fn lots(&self) -> i64
-        requires { Near 24000 self.now.rank }
+        requires { FitsSigned w64 (turned FEWER self.now.rank) }
         ensures { result ≡ turned FEWER self.now.rank }
     {
         if FEWER { -self.rank } else { self.rank }
@@ -91,6 +99,8 @@ impl<const FEWER: bool> Score for ByLots<FEWER> {
     ghost scale = { lots_scale FEWER };
 
     ghost lawful = { lots_lawful FEWER };
+
+    ghost exact = { adds_exactly (lots_lawful FEWER) };
 
     ghost ordered = { Prim.search rules };
 
@@ -108,8 +118,8 @@ impl<const FEWER: bool> Score for ByLots<FEWER> {
 
     fn largest() -> Self {
         ByLots {
-            gain: 1_000_000_000_000,
-            rank: 500,
+            gain: MOST_GAIN,
+            rank: MOST_LOTS,
         }
     }
 

@@ -1,8 +1,9 @@
 // The one search over all schedules of a unit, backward over a work table, for every fleet and every score.
-ghost use Rattle.std.specs.Prelude.{◌≡◌, ℕ, ◌+◌, ◌<◌, ◌≤◌, length, take, drop, Some, None, OnOk};
+ghost use Rattle.std.specs.Prelude.{◌≡◌, ◌+◌, ◌<◌, ◌≤◌, length, take, drop, Some, None, OnOk};
 ghost use Rattle.terms.specs.Numbers.{Near};
 ghost use Rattle.fleet.specs.Units.{SoundArc};
 ghost use Rattle.fleet.specs.Rows.{prices_of, periods_of};
+ghost use Rattle.fleet.specs.Scores.{Fits, Summed};
 ghost use Rattle.fleet.specs.UnitDays.{model_of, of_unit, of_day};
 ghost use Rattle.fleet.specs.Answers.{Room, Free, Searched};
 ghost use Rattle.fleet.specs.Table.{Best, better_of, worth, Added, ToGo, Via, BestSlots, BestTable, Step, FirstWay};
@@ -41,7 +42,7 @@ impl<'a, F: Fleet> UnitDay<'a, F> {
     fn score<S: Score>(&self, period: usize, from: usize, to: usize, output: i32) -> S
         requires { Near 500 output }
         ensures is { result ≡ worth S.Score.scale (model_of F.Fleet.meaning self.now) (prices_of self.now.row.now) period from to output }
-        ensures fits { S.Score.scale.fits 1 result }
+        ensures fits { Fits S.Score.scale 1 result }
     {
         let cost = self.fleet.cost(self.unit, period, from, to, output);
         S::of(
@@ -60,7 +61,7 @@ impl<'a, F: Fleet> UnitDay<'a, F> {
         rest: S,
     ) -> Option<S>
         requires sound { SoundArc (Some range) }
-        requires fits { (k : ℕ) × (k < 48) × S.Score.scale.fits k rest }
+        requires summed { Summed S.Score.scale 47 rest }
         ensures { Best S.Score.scale (of_unit F.Fleet.meaning self.now (Added S.Score.scale) period from to (Some range) rest) result }
     {
         let mut best = None;
@@ -169,28 +170,24 @@ impl<'a, F: Fleet> UnitDay<'a, F> {
         requires best { Best S.Score.scale (of_day F.Fleet.meaning self.now (ToGo S.Score.scale) period from) (Some best) }
         ensures { of_day F.Fleet.meaning self.now (Step S.Score.scale) period from best result }
     {
-        // The loops always are left by their label, so this entry is never the answer. The best over an arc goes through all
-        // of its outputs, this stops at one: the two share `lo..=hi` alone.
-        let mut found = Entry {
-            state: 0,
-            output: 0,
-        };
-        'search: for (to, slot) in next.iter().enumerate() {
-            let Some(rest) = *slot else {
-                continue;
-            };
-            let Some(range) = self.fleet.arc(self.unit, period, from, to) else {
-                continue;
-            };
-            for output in range.lo..=range.hi {
-                let score: S = self.score(period, from, to, output);
-                if best <= score.plus(rest) {
-                    found = Entry { state: to, output };
-                    break 'search;
+        // The best over an arc goes through all of its outputs, this stops at one: the two share `lo..=hi` alone.
+        'search: {
+            for (to, slot) in next.iter().enumerate() {
+                let Some(rest) = *slot else {
+                    continue;
+                };
+                let Some(range) = self.fleet.arc(self.unit, period, from, to) else {
+                    continue;
+                };
+                for output in range.lo..=range.hi {
+                    let score: S = self.score(period, from, to, output);
+                    if best <= score.plus(rest) {
+                        break 'search Entry { state: to, output };
+                    }
                 }
             }
+            unreachable()
         }
-        found
     }
 
     // Writes the first of the best ways from a filled table.

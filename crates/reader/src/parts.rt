@@ -10,13 +10,13 @@ use crate::ranges::{AMOUNT, COUNT, LOTS};
 use crate::steps::Step;
 use arrayvec::ArrayVec;
 use terms::{Decline, Entry};
-use words::{Range, Words};
+use words::{Bounds, Words};
 
 // One of what a form repeats; its last number lies in a range.
 pub(crate) trait Part: Copy {
     ghost shape: { ℤ → ℤ → Shape Self };
 
-    fn read(words: &mut Words, range: Range) -> Result<Self, Decline>
+    fn read(words: &mut Words, range: Bounds) -> Result<Self, Decline>
         ensures { answer_of result words.new ≡ read (shape range.lo range.hi) (state_of words.old) };
 }
 
@@ -25,7 +25,7 @@ impl Part for i32 {
 
     ghost shape = { λ lo hi. whole lo hi };
 
-    fn read(words: &mut Words, range: Range) -> Result<i32, Decline> {
+    fn read(words: &mut Words, range: Bounds) -> Result<i32, Decline> {
         words.number(range)
     }
 }
@@ -35,7 +35,7 @@ impl Part for Entry {
 
     ghost shape = { λ lo hi. entry_shape lo hi };
 
-    fn read(words: &mut Words, range: Range) -> Result<Entry, Decline> {
+    fn read(words: &mut Words, range: Bounds) -> Result<Entry, Decline> {
         words.expect(b"(")?;
         let state = words.count(COUNT)?;
         let output = words.number(range)?;
@@ -52,7 +52,7 @@ impl Part for Step {
 
     ghost shape = { λ lo hi. step_shape lo hi };
 
-    fn read(words: &mut Words, range: Range) -> Result<Step, Decline> {
+    fn read(words: &mut Words, range: Bounds) -> Result<Step, Decline> {
         words.expect(b"(")?;
         let lots = words.count(LOTS)?;
         let price = words.number(range)?;
@@ -63,7 +63,7 @@ impl Part for Step {
 
 // Reads one part into each place, as long as no closing bracket stands next, and then that bracket. Answers how many
 // places are filled.
-fn fill<T: Part>(words: &mut Words, range: Range, places: &mut [T]) -> Result<usize, Decline>
+fn fill<T: Part>(words: &mut Words, range: Bounds, places: &mut [T]) -> Result<usize, Decline>
     ensures within { IfOk result (λ count. count ≤ length places.old) }
     ensures filled { answer_by (λ count. take count places.new) result words.new ≡ read (many (length places.old) (T.Part.shape range.lo range.hi)) (state_of words.old) }
 {
@@ -106,7 +106,7 @@ pub(crate) fn read_schedule(words: &mut Words) -> Result<ArrayVec<Entry, 48>, De
 }
 
 // (steps (Q P) ..), one to four steps.
-pub(crate) fn read_steps(words: &mut Words, prices: Range) -> Result<ArrayVec<Step, 4>, Decline>
+pub(crate) fn read_steps(words: &mut Words, prices: Bounds) -> Result<ArrayVec<Step, 4>, Decline>
     ensures { answer_by items_of result words.new ≡ read (steps_shape prices.lo prices.hi) (state_of words.old) }
 {
     words.expect(b"(")?;

@@ -2,13 +2,13 @@
 use Rattle.std.proofs.Common.{◌≡◌, ℕ, ◌^◌, ◌<◌, Bool, true, false, cond, List, [], ◌∷◌, ℤ, Some, None, Option, sym, refl, ap, ◌∙◌, subst, ⊎_elim, arith}
 use Rattle.std.specs.Fmt.{signed_decimal}
 use Rattle.std.specs.Str.{bytes_eq}
-use Rattle.std.specs.Prelude.{nat_abs, is_some}
+use Rattle.std.specs.Prelude.{nat_abs}
 use Rattle.std.proofs.lemmas.Bool.{cond-true, cond-false, cases_Bool, both_ways}
 use Rattle.std.proofs.lemmas.Slice.Eq.{bytes_eq-Decides}
 use Rattle.std.proofs.lemmas.Option.{same_Some}
 use Rattle.words.specs.Lines.{Word, texts}
 use Rattle.words.specs.Numerals.{value_of}
-use Rattle.words.specs.Grammar.{State, Answer, Reader, got, no, bind, head, tail, first, past, Kind, bracket, name, numeral, is_bracket_text, kind_of_text, word_in, word, within, number_said, number_at, number_in, number, stands, end, ends, is_got}
+use Rattle.words.specs.Grammar.{State, Answer, Reader, got, no, bind, head, tail, first, past, bracket, numeral, is_bracket_text, name_unless, word_in, word, within, number_at, number_in, number, stands, end, ends, is_got}
 use Rattle.words.proofs.Decimals.{value_decimal, decimal_value, decimal_no_bracket}
 
 pub never : {A : Type 0} {X : Type 0} (n p : ℕ) (a : A) (s : State) → ◌≡◌ {A = Answer A} (no n p) (got a s) → X
@@ -94,9 +94,10 @@ pub record Number (lo hi : ℤ) (s t : State) (z : ℤ) : Type 0 where
   pub said : value_of (signed_decimal z) ≡ Some z
   pub passed : Passed s t (signed_decimal z)
 
-number_by_value : (lo hi : ℤ) (s t : State) (x : Word) (z : ℤ) (o : Option ℤ) → first s ≡ Some x → value_of x.text ≡ o → number_said lo hi s x.place o ≡ got z t → Number lo hi s t z
-number_by_value lo hi s t x z None h v e = never 6 x.place z t e
-number_by_value lo hi s t x z (Some y) h v e =
+number_by_kind : (lo hi : ℤ) (s t : State) (x : Word) (z : ℤ) (b : Bool) (o : Option ℤ) → first s ≡ Some x → value_of x.text ≡ o → number_at lo hi s x.place (cond b bracket (name_unless o)) ≡ got z t → Number lo hi s t z
+number_by_kind lo hi s t x z true o h v e = never 5 x.place z t e
+number_by_kind lo hi s t x z false None h v e = never 6 x.place z t e
+number_by_kind lo hi s t x z false (Some y) h v e =
     ⊎_elim
     (λ (b : within lo hi y ≡ true).
     let g = got_same y z (past s) t (sym (cond-true _ _ _ b) ∙ e) in
@@ -109,23 +110,16 @@ number_by_value lo hi s t x z (Some y) h v e =
     (λ (f : within lo hi y ≡ false). never 7 x.place z t (sym (cond-false _ _ _ f) ∙ e))
     (cases_Bool (within lo hi y))
 
-number_by_kind : (lo hi : ℤ) (s t : State) (x : Word) (z : ℤ) (k : Kind) → first s ≡ Some x → number_at lo hi s x.place k (value_of x.text) ≡ got z t → Number lo hi s t z
-number_by_kind lo hi s t x z bracket h e = never 5 x.place z t e
-number_by_kind lo hi s t x z name h e = number_by_value lo hi s t x z (value_of x.text) h refl e
-number_by_kind lo hi s t x z numeral h e = number_by_value lo hi s t x z (value_of x.text) h refl e
-
 number_by_word : (lo hi : ℤ) (s t : State) (z : ℤ) (o : Option Word) → first s ≡ o → number_in lo hi s o ≡ got z t → Number lo hi s t z
 number_by_word lo hi s t z None h e = never 5 s.end z t e
-number_by_word lo hi s t z (Some x) h e = number_by_kind lo hi s t x z (kind_of_text x.text) h e
+number_by_word lo hi s t z (Some x) h e = number_by_kind lo hi s t x z (is_bracket_text x.text) (value_of x.text) h refl e
 
 pub number_only : (lo hi : ℤ) (s t : State) (z : ℤ) → number lo hi s ≡ got z t → Number lo hi s t z
 unfolding number
 number_only lo hi s t z e = number_by_word lo hi s t z (first s) refl e
 
-no_bracket : (lo hi : ℤ) (s : State) (p : ℕ) (b c : Bool) (o : Option ℤ) → b ≡ false → number_at lo hi s p (cond b bracket (cond c numeral name)) o ≡ number_said lo hi s p o
-no_bracket lo hi s p true c o e = absurd (both_ways true e refl)
-no_bracket lo hi s p false true o e = refl
-no_bracket lo hi s p false false o e = refl
+numeral_kind : (b : Bool) (o : Option ℤ) (z : ℤ) → b ≡ false → o ≡ Some z → cond b bracket (name_unless o) ≡ numeral z
+numeral_kind b o z f v = cond-false b bracket (name_unless o) f ∙ ap name_unless v
 
 pub number_always : (lo hi : ℤ) (s : State) (z : ℤ) (ts : List (List ℕ)) → nat_abs z < 10 ^ 10 → within lo hi z ≡ true → texts s.left ≡ signed_decimal z ∷ ts → (number lo hi s ≡ got z (past s)) × (texts (past s).left ≡ ts)
 unfolding number
@@ -133,8 +127,7 @@ number_always lo hi s z ts small r h =
     let x = standing s (signed_decimal z) ts h in
     let v : value_of x.word.text ≡ Some z = ap value_of x.text ∙ value_decimal z small in
     let n : is_bracket_text x.word.text ≡ false = ap is_bracket_text x.text ∙ decimal_no_bracket z small in (
-      ap (number_in lo hi s) x.next ∙ no_bracket lo hi s x.word.place (is_bracket_text x.word.text) (is_some (value_of x.word.text)) (value_of x.word.text) n
-          ∙ ap (number_said lo hi s x.word.place) v ∙ cond-true _ _ _ r,
+      ap (number_in lo hi s) x.next ∙ ap (number_at lo hi s x.word.place) (numeral_kind (is_bracket_text x.word.text) (value_of x.word.text) z n v) ∙ cond-true _ _ _ r,
       x.rest,
     )
 

@@ -2,14 +2,14 @@
 use Rattle.std.proofs.Common.{◌≡◌, ℕ, ◌^◌, ◌<◌, Bool, true, false, cond, List, [], ◌∷◌, ◌++◌, ℤ, ◌≤ℤ◌, Some, None, Option, sym, refl, ap, ◌∙◌, subst, ⊎_elim, arith}
 use Rattle.std.specs.Fmt.{signed_decimal}
 use Rattle.std.specs.Str.{bytes_eq}
-use Rattle.std.specs.Prelude.{nat_abs, is_some}
+use Rattle.std.specs.Prelude.{nat_abs}
 use Rattle.std.proofs.lemmas.Bool.{cond-true, cond-false, cases_Bool, both_ways}
 use Rattle.std.proofs.lemmas.Option.{same_Some}
 use Rattle.std.proofs.lemmas.List.{append_cancel_right}
 use Rattle.std.proofs.lemmas.Int.{ints}
 use Rattle.words.specs.Lines.{Word, texts}
 use Rattle.words.specs.Numerals.{value_of}
-use Rattle.words.specs.Grammar.{State, Answer, got, no, past, is_got, Kind, bracket, name, numeral as numeral_kind, is_bracket_text, kind_of_text, word, within, number_said, number_at, number}
+use Rattle.words.specs.Grammar.{State, Answer, got, no, past, is_got, Kind, bracket, name, numeral as numeral_kind, is_bracket_text, name_unless, kind_of_text, word, within, number_at, number}
 use Rattle.words.specs.Laws.{TenDigits}
 use Rattle.words.proofs.Decimals.{value_decimal}
 use Rattle.words.proofs.ReaderFacts.{never, got_same, word_only, word_always, number_only, number_always}
@@ -109,25 +109,21 @@ data NumberNo (n : ℕ) (x : Option (List ℕ)) : Type 0 where
   beyond : n ≡ 7 → (w : List ℕ) → (z : ℤ) → x ≡ Some w → value_of w ≡ Some z → NumberNo n x
 
 module _ (lo hi : ℤ) where
-  said_no : (s : State) (w : Word) (o : Option ℤ) (n p : ℕ) → value_of w.text ≡ o → is_bracket_text w.text ≡ false → number_said lo hi s w.place o ≡ no n p → NumberNo n (Some w.text) × (w.place ≡ p)
-  said_no s w None n p v b e = let k = same_no 6 w.place n p e in (unread (sym k.number) w.text refl b v, k.place)
-  said_no s w (Some z) n p v b e =
+  kind_no : (s : State) (w : Word) (b : Bool) (o : Option ℤ) (n p : ℕ) → is_bracket_text w.text ≡ b → value_of w.text ≡ o → number_at lo hi s w.place (cond b bracket (name_unless o)) ≡ no n p → NumberNo n (Some w.text) × (w.place ≡ p)
+  kind_no s w true o n p b v e =
+      let k = same_no 5 w.place n p e in
+      (unexpected (sym k.number) (λ x h f. both_ways (is_bracket_text w.text) (ap is_bracket_text (same_Some w.text x h) ∙ f) b), k.place)
+  kind_no s w false None n p b v e = let k = same_no 6 w.place n p e in (unread (sym k.number) w.text refl b v, k.place)
+  kind_no s w false (Some z) n p b v e =
       ⊎_elim
       (λ (y : within lo hi z ≡ true). never n p z (past s) (sym e ∙ cond-true _ _ _ y))
       (λ (f : within lo hi z ≡ false). let k = same_no 7 w.place n p (sym (cond-false _ _ _ f) ∙ e) in (beyond (sym k.number) w.text z refl v, k.place))
       (cases_Bool (within lo hi z))
 
-  kind_no : (s : State) (w : Word) (b c : Bool) (n p : ℕ) → is_bracket_text w.text ≡ b → number_at lo hi s w.place (cond b bracket (cond c numeral_kind name)) (value_of w.text) ≡ no n p → NumberNo n (Some w.text) × (w.place ≡ p)
-  kind_no s w true c n p b e =
-      let k = same_no 5 w.place n p e in
-      (unexpected (sym k.number) (λ x h f. both_ways (is_bracket_text w.text) (ap is_bracket_text (same_Some w.text x h) ∙ f) b), k.place)
-  kind_no s w false true n p b e = said_no s w (value_of w.text) n p refl b e
-  kind_no s w false false n p b e = said_no s w (value_of w.text) n p refl b e
-
   number_no : (ws : List Word) (e n p : ℕ) → number lo hi (record { left = ws; end = e }) ≡ no n p → NumberNo n (front (texts ws)) × (place_in e ws ≡ p)
   unfolding number
   number_no [] e n p h = let k = same_no 5 e n p h in (unexpected (sym k.number) (λ w x b. none_some w x), k.place)
-  number_no (x ∷ ws) e n p h = kind_no (record { left = x ∷ ws; end = e }) x (is_bracket_text x.text) (is_some (value_of x.text)) n p refl h
+  number_no (x ∷ ws) e n p h = kind_no (record { left = x ∷ ws; end = e }) x (is_bracket_text x.text) (value_of x.text) n p refl refl h
 
   -- what some numeral in range begins with
   pub record StartsNumeral (ts : List (List ℕ)) : Type 0 where
@@ -182,18 +178,14 @@ module _ (lo hi : ℤ) where
               unlike_number s n p z e w.0 w.1 k.0 (subst (λ us. Like n (front (texts s.left)) (front us)) (sym h ∙ i.passed.words) l));
         }
 
-  said_past : (ws : List Word) (e : ℕ) (w : Word) (o : Option ℤ) (z : ℤ) (t : State) → number_said lo hi (record { left = w ∷ ws; end = e }) w.place o ≡ got z t → ws ≡ t.left
-  said_past ws e w None z t h = never 6 w.place z t h
-  said_past ws e w (Some y) z t h =
+  kind_past : (ws : List Word) (e : ℕ) (w : Word) (k : Kind) (z : ℤ) (t : State) → number_at lo hi (record { left = w ∷ ws; end = e }) w.place k ≡ got z t → ws ≡ t.left
+  kind_past ws e w bracket z t h = never 5 w.place z t h
+  kind_past ws e w name z t h = never 6 w.place z t h
+  kind_past ws e w (numeral_kind y) z t h =
       ⊎_elim
       (λ (b : within lo hi y ≡ true). ap (λ (u : State). u.left) (got_same y z (record { left = ws; end = e }) t (sym (cond-true _ _ _ b) ∙ h)).state)
       (λ (f : within lo hi y ≡ false). never 7 w.place z t (sym (cond-false _ _ _ f) ∙ h))
       (cases_Bool (within lo hi y))
-
-  kind_past : (ws : List Word) (e : ℕ) (w : Word) (k : Kind) (z : ℤ) (t : State) → number_at lo hi (record { left = w ∷ ws; end = e }) w.place k (value_of w.text) ≡ got z t → ws ≡ t.left
-  kind_past ws e w bracket z t h = never 5 w.place z t h
-  kind_past ws e w name z t h = said_past ws e w (value_of w.text) z t h
-  kind_past ws e w numeral_kind z t h = said_past ws e w (value_of w.text) z t h
 
   number_past : (ws : List Word) (e : ℕ) (z : ℤ) (t : State) → number lo hi (record { left = ws; end = e }) ≡ got z t → (f : List Word) × (ws ≡ f ++ t.left)
   unfolding number

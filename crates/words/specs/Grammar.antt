@@ -1,5 +1,5 @@
 -- How a form is read, word by word. Assumes nothing.
-use Rattle.std.specs.Prelude.{ℕ, zero, suc, Bool, true, false, cond, ◌&&◌, List, [], ◌∷◌, ℤ, nat_abs, Some, None, Option, is_some, int_le}
+use Rattle.std.specs.Prelude.{ℕ, zero, suc, Bool, true, false, cond, ◌&&◌, List, [], ◌∷◌, ℤ, nat_abs, Some, None, Option, int_le}
 use Rattle.std.specs.Str.{bytes_eq}
 use Rattle.words.specs.Classes.{is_bracket}
 use Rattle.words.specs.Lines.{Word}
@@ -41,17 +41,22 @@ first s = head s.left
 abbrev pub past : State → State
 past s = record { left = tail s.left; end = s.end }
 
+-- a word by what its bytes are, a numeral with the number that it says
 pub data Kind : Type 0 where
   bracket : Kind
   name : Kind
-  numeral : Kind
+  numeral : ℤ → Kind
 
 abbrev pub is_bracket_text : List ℕ → Bool
 is_bracket_text [] = false
 is_bracket_text (b ∷ bs) = is_bracket b
 
+abbrev pub name_unless : Option ℤ → Kind
+name_unless None = name
+name_unless (Some z) = numeral z
+
 abbrev pub kind_of_text : List ℕ → Kind
-kind_of_text t = cond (is_bracket_text t) bracket (cond (is_some (value_of t)) numeral name)
+kind_of_text t = cond (is_bracket_text t) bracket (name_unless (value_of t))
 
 -- the word w, or 5: at another word, or after the last byte
 abbrev pub word_in : List ℕ → State → Option Word → Answer (Unit {0})
@@ -72,20 +77,15 @@ end s = end_in s (first s)
 abbrev pub within : ℤ → ℤ → ℤ → Bool
 within lo hi z = int_le lo z && int_le z hi
 
--- a word that is no numeral: 6; a numeral out of range: 7
-abbrev pub number_said : ℤ → ℤ → State → ℕ → Option ℤ → Answer ℤ
-number_said lo hi s p None = no 6 p
-number_said lo hi s p (Some z) = cond (within lo hi z) (got z (past s)) (no 7 p)
-
--- where a numeral may stand, a bracket is 5
-abbrev pub number_at : ℤ → ℤ → State → ℕ → Kind → Option ℤ → Answer ℤ
-number_at lo hi s p bracket o = no 5 p
-number_at lo hi s p name o = number_said lo hi s p o
-number_at lo hi s p numeral o = number_said lo hi s p o
+-- where a numeral may stand, a bracket is 5, a name 6, and a numeral out of range 7
+abbrev pub number_at : ℤ → ℤ → State → ℕ → Kind → Answer ℤ
+number_at lo hi s p bracket = no 5 p
+number_at lo hi s p name = no 6 p
+number_at lo hi s p (numeral z) = cond (within lo hi z) (got z (past s)) (no 7 p)
 
 abbrev pub number_in : ℤ → ℤ → State → Option Word → Answer ℤ
 number_in lo hi s None = no 5 s.end
-number_in lo hi s (Some x) = number_at lo hi s x.place (kind_of_text x.text) (value_of x.text)
+number_in lo hi s (Some x) = number_at lo hi s x.place (kind_of_text x.text)
 
 -- a numeral from lo to hi
 unfoldable pub number : ℤ → ℤ → Reader ℤ

@@ -10,12 +10,12 @@ use Rattle.words.specs.Grammar.{State, Kind, bracket, name, numeral}
 abbrev pub text_of : WordParts → List ℕ
 text_of (Bracket t) = t.now
 text_of (Name t) = t.now
-text_of (Numeral t) = t.now
+text_of (Numeral t z) = t.now
 
 abbrev pub kind_of : WordParts → Kind
 kind_of (Bracket t) = bracket
 kind_of (Name t) = name
-kind_of (Numeral t) = numeral
+kind_of (Numeral t z) = numeral z
 
 abbrev pub seen : Option PlacedWord → Option Word
 seen None = None

@@ -10,5 +10,5 @@ mod word;
 
 pub use classes::check_bytes;
 pub use line::Words;
-pub use readers::Range;
+pub use readers::Bounds;
 pub use word::{PlacedWord, Word};

@@ -1,5 +1,5 @@
 // The number that a word says.
-ghost use Rattle.std.specs.Prelude.{◌≡◌, ◌^◌, ◌<◌, ◌≤◌, length, IfSome};
+ghost use Rattle.std.specs.Prelude.{◌≡◌, ◌^◌, ◌<◌, length, IfSome};
 ghost use Rattle.words.specs.Numerals.{value_of, natural_of, digits_from};
 
 // The value of a numeral: an optional minus and then one to ten digits, with no needless 0 and no minus before 0.
@@ -19,17 +19,22 @@ fn natural_of(digits: &[u8]) -> Option<u64>
     ensures bound { IfSome result (λ n. n < 10 ^ 10) }
 {
     match digits {
-        [b'1'..=b'9', rest @ ..] if rest.len() < 10 => digits_value(digits),
+        [first @ b'1'..=b'9', rest @ ..] if rest.len() < 10 => digits_after(
+            u64::from(*first - b'0'),
+            rest,
+        ),
         _ => None,
     }
 }
 
-fn digits_value(digits: &[u8]) -> Option<u64>
-    requires { length digits.now ≤ 10 }
-    ensures value { result ≡ digits_from 0 digits.now }
+// The number that a leading digit and up to nine more write.
+fn digits_after(first: u64, digits: &[u8]) -> Option<u64>
+    requires digit { first < 10 }
+    requires few { length digits.now < 10 }
+    ensures value { result ≡ digits_from first digits.now }
     ensures bound { IfSome result (λ n. n < 10 ^ 10) }
 {
-    let mut n: u64 = 0;
+    let mut n = first;
     for digit in digits {
         match *digit as char {
             '0'..='9' => n = n * 10 + u64::from(*digit - b'0'),

@@ -13,12 +13,12 @@ use terms::{Cause, Decline};
 
 // The whole numbers from `lo` to `hi`.
 #[derive(Clone, Copy, PartialEq, Eq, Debug)]
-pub struct Range {
+pub struct Bounds {
     pub lo: i32,
     pub hi: i32,
 }
 
-impl Range {
+impl Bounds {
     // The number, if it lies in the range.
     fn only(&self, number: i64) -> Option<i32>
         ensures { result ≡ (if within self.now.lo self.now.hi number then Some number else None) }
@@ -57,25 +57,23 @@ impl<'a> Words<'a> {
 
     // A numeral in a range.
     #[tactic(auto, unfolding(crate::specs::Grammar::number))]
-    pub fn number(&mut self, range: Range) -> Result<i32, Decline>
+    pub fn number(&mut self, range: Bounds) -> Result<i32, Decline>
         ensures { answer_of result self.new ≡ read (whole range.lo range.hi) (state_of self.old) }
     {
         let Some(found) = self.next() else {
             return Err(Cause::UnexpectedWord.at(self.place_after()));
         };
-        if let Word::Bracket(_) = found.word {
-            return Err(Cause::UnexpectedWord.at(found.place));
+        match found.word {
+            Word::Bracket(_) => Err(Cause::UnexpectedWord.at(found.place)),
+            Word::Name(_) => Err(Cause::NotANumeral.at(found.place)),
+            Word::Numeral { value, .. } => range
+                .only(value)
+                .ok_or(Cause::NumeralOutOfRange.at(found.place)),
         }
-        let Some(number) = found.word.value() else {
-            return Err(Cause::NotANumeral.at(found.place));
-        };
-        range
-            .only(number)
-            .ok_or(Cause::NumeralOutOfRange.at(found.place))
     }
 
     // A numeral in a range of numbers that are not negative.
-    pub fn count(&mut self, range: Range) -> Result<u32, Decline>
+    pub fn count(&mut self, range: Bounds) -> Result<u32, Decline>
         ensures { answer_of result self.new ≡ read (natural range.lo range.hi) (state_of self.old) }
     {
         let number = self.number(range)?;
@@ -99,7 +97,7 @@ impl<'a> Words<'a> {
     }
 
     // A group of one number, (KEY N).
-    pub fn one(&mut self, key: &[u8], range: Range) -> Result<u32, Decline>
+    pub fn one(&mut self, key: &[u8], range: Bounds) -> Result<u32, Decline>
         ensures { answer_of result self.new ≡ read (group key.now (natural range.lo range.hi)) (state_of self.old) }
     {
         self.expect(b"(")?;
@@ -110,7 +108,7 @@ impl<'a> Words<'a> {
     }
 
     // A group of two numbers in one range, (KEY N N).
-    pub fn two(&mut self, key: &[u8], range: Range) -> Result<(u32, u32), Decline>
+    pub fn two(&mut self, key: &[u8], range: Bounds) -> Result<(u32, u32), Decline>
         ensures { answer_of result self.new ≡ read (group key.now (both (natural range.lo range.hi) (natural range.lo range.hi))) (state_of self.old) }
     {
         self.expect(b"(")?;

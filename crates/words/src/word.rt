@@ -1,7 +1,6 @@
 // A word, which is a part of the line itself.
 ghost use Rattle.std.specs.Prelude.{◌≡◌, ◌<◌, ◌≤◌, [], length, IfSome, IfNone};
 ghost use Rattle.std.specs.List.{prefix_len};
-ghost use Rattle.words.specs.Numerals.{value_of};
 ghost use Rattle.words.specs.Grammar.{kind_of_text};
 ghost use Rattle.words.specs.Seen.{text_of, kind_of};
 ghost use Rattle.words.specs.Lengths.{word_length};
@@ -14,7 +13,8 @@ use crate::numerals::value_of;
 pub enum Word<'a> {
     Bracket(&'a [u8]),
     Name(&'a [u8]),
-    Numeral(&'a [u8]),
+    // with the number that it says
+    Numeral { text: &'a [u8], value: i64 },
 }
 
 // A word with the place of its first byte, counted from 1.
@@ -36,7 +36,7 @@ impl<'a> Word<'a> {
             [] => None,
             [b'(' | b')', ..] => Some(Word::Bracket(text)),
             _ => match value_of(text) {
-                Some(_) => Some(Word::Numeral(text)),
+                Some(value) => Some(Word::Numeral { text, value }),
                 None => Some(Word::Name(text)),
             },
         }
@@ -47,15 +47,8 @@ impl<'a> Word<'a> {
         ensures { result.now ≡ text_of self.entry }
     {
         match self {
-            Word::Bracket(text) | Word::Name(text) | Word::Numeral(text) => text,
+            Word::Bracket(text) | Word::Name(text) | Word::Numeral { text, .. } => text,
         }
-    }
-
-    // The number that it says, if it is a numeral.
-    pub(crate) fn value(self) -> Option<i64>
-        ensures { result ≡ value_of (text_of self.entry) }
-    {
-        value_of(self.text())
     }
 }
 

@@ -1,13 +1,13 @@
 use Rattle.std.proofs.Common.{true, false, arith, w64, SFits, rules}
 use Rattle.std.proofs.lemmas.Int.{to_z-of_z}
-use Rattle.fleet.proofs.Supplies.{rank_near, supplied, supply_law}
+use Rattle.fleet.proofs.Supplies.{lots_held, supplied, supply_law}
 use Rattle.fleet.proofs.answers.supply.Goals as goal
 
 pub lots-requires : goal.lots-requires
-lots-requires g c = (omega arith, rank_near true _ ((g.met.F.Fleet.sound c.args.fleet.now).each c.args.unit) c.args.row.now c.in_ok-least.least c.in_ok-least.ensures.best.1)
+lots-requires g c = (omega arith, lots_held true _ ((g.met.F.Fleet.sound c.args.fleet.now).each c.args.unit) c.args.row.now c.in_ok-least.least c.in_ok-least.ensures.best.1)
 
 pub lots-requires-2 : goal.lots-requires-2
-lots-requires-2 g c = (omega arith, rank_near false _ ((g.met.F.Fleet.sound c.args.fleet.now).each c.args.unit) c.args.row.now c.in_ok-most.most c.in_ok-most.ensures.best.1)
+lots-requires-2 g c = (omega arith, lots_held false _ ((g.met.F.Fleet.sound c.args.fleet.now).each c.args.unit) c.args.row.now c.in_ok-most.most c.in_ok-most.ensures.best.1)
 
 pub returns-clause-supply : goal.returns-clause-supply
 returns-clause-supply g c =

@@ -1,7 +1,7 @@
 use Rattle.std.proofs.Common.{sym, subst, arith}
 use Rattle.fleet.specs.Units.{SoundArc}
 use Rattle.fleet.proofs.RowFacts.{row_priced}
-use Rattle.fleet.proofs.Steps.{via_no_rest, via_best, togo_fits}
+use Rattle.fleet.proofs.Steps.{via_no_rest, via_best, togo_summed}
 use Rattle.fleet.proofs.search.UnitDay.best_arc.Goals as goal
 
 pub returns-in_err-rest : goal.returns-in_err-rest
@@ -15,7 +15,7 @@ best_output-requires g c =
     let row = rw c.in_ok-rest.was at c.requires.next in
     record {
       sound = subst SoundArc (sym c.in_ok-range.ensures) (sp.arcs c.args.period c.args.from c.args.to);
-      fits = togo_fits g.met.S.Score.lawful _ sp _ (row_priced c.args.self.now.row.now) _ _ _ _ c.args.self.now.row.now.numerators.short (omega arith) row.0;
+      summed = togo_summed g.met.S.Score.lawful _ sp _ (row_priced c.args.self.now.row.now) _ _ _ _ c.args.self.now.row.now.numerators.short (omega arith) row.0;
     }
 
 pub returns : goal.returns

@@ -1,5 +1,5 @@
 use Rattle.std.proofs.Common.{rules}
-use Rattle.words.proofs.numerals.digits_value.Goals as goal
+use Rattle.words.proofs.numerals.digits_after.Goals as goal
 use Rattle.words.proofs.Scans.{digits_more, digits_low, digits_high, digits_end, tens, tens_most}
 
 pub returns-in_default : goal.returns-in_default
