@@ -1,2 +1,4 @@
 mod Costs
 mod OutageLaws
+mod TableLaws
+mod Unders

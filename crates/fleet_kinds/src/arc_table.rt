@@ -1,6 +1,6 @@
 // A fleet given by listed rows.
 ghost use Rattle.std.specs.Prelude.{◌≡◌, ◌&&◌, true, min, IfSome};
-ghost use Rattle.fleet_kinds.specs.ArcTables.{ranged, bounded, row_for, table_meaning};
+ghost use Rattle.fleet_kinds.specs.ArcTables.{ranged, bounded, row_for, table_meaning, ArcTableLaw};
 ghost use Rattle.fleet_kinds.specs.Heeded.{table_sound};
 
 use crate::rows::{ArcKey, ArcRow};
@@ -15,8 +15,10 @@ pub struct ArcTable {
 }
 
 impl ArcTable {
+    #[tactic(auto, using(crate::proofs::TableLaws::arc_table_law))]
     pub fn new(count: usize, rows: Vec<ArcRow>) -> ArcTable
-        ensures { table_meaning result.count result.rows.items ≡ table_meaning count rows.items }
+        ensures meaning { ⟦<ArcTable as Fleet>⟧.meaning result ≡ table_meaning count rows.items }
+        ensures law { ArcTableLaw }
     {
         ArcTable { count, rows }
     }

@@ -48,7 +48,7 @@ impl<F: Fleet> Outages<F> {
     pub fn new(fleet: F) -> Outages<F>
         ensures fleet { result.fleet ≡ fleet }
         ensures list { result.list.items ≡ [] }
-        ensures same { out_meaning result.list.items (F.Fleet.meaning result.fleet) ≡ F.Fleet.meaning fleet }
+        ensures meaning { ⟦<Outages<F> as Fleet>⟧.meaning result ≡ F.Fleet.meaning fleet }
         ensures law { WhenOutLaw }
     {
         Outages {
@@ -63,6 +63,7 @@ impl<F: Fleet> Outages<F> {
         ensures answer { AddAnswer (outage_fault (F.Fleet.meaning self.old.fleet).units (length self.old.list.items) outage) result }
         ensures list { self.new.list.items ≡ (if is_ok result then self.old.list.items ++ (outage ∷ []) else self.old.list.items) }
         ensures fleet { self.new.fleet ≡ self.old.fleet }
+        ensures meaning { let meaning = ⟦<Outages<F> as Fleet>⟧.meaning in meaning self.new ≡ (if is_ok result then out_meaning (outage ∷ []) (meaning self.old) else meaning self.old) }
         ensures untouched { is_ok result ≡ false → self.new ≡ self.old }
         ensures law { OutageLaw }
     {
@@ -81,6 +82,7 @@ impl<F: Fleet> Outages<F> {
     pub fn fleet_mut(&mut self) -> &mut F
         ensures* writes_back { sem 𝓛 (lends_fleet F.row self.entry result) }
         ensures value { result.now ≡ self.old.fleet }
+        ensures meaning { (f : F) → ⟦<Outages<F> as Fleet>⟧.meaning (record { fleet = f; list = self.old.list }) ≡ out_meaning self.old.list.items (F.Fleet.meaning f) }
     {
         &mut self.fleet
     }

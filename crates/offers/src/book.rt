@@ -1,8 +1,9 @@
 // The offer book.
 ghost use Rattle.std.specs.Prelude.{◌≡◌, ◌≤◌, false, [], ◌∷◌, ◌++◌, length, if◌then◌else◌, nat_lt};
+ghost use Rattle.std.specs.Bool.{MatchBool};
 ghost use Rattle.std.specs.List.{slice_get};
 ghost use Rattle.units.specs.Offers.{KeepsRule};
-ghost use Rattle.offers.specs.Books.{book_meaning};
+ghost use Rattle.offers.specs.Books.{book_meaning, no_units, AddsUnit};
 ghost use Rattle.offers.specs.BookSound.{book_sound};
 
 use arrayvec::ArrayVec;
@@ -19,18 +20,20 @@ pub struct Book {
 impl Book {
     // A book without offers.
     pub fn new() -> Book
-        ensures { result.offers.items ≡ [] }
+        ensures offers { result.offers.items ≡ [] }
+        ensures meaning { ⟦<Book as Fleet>⟧.meaning result ≡ no_units }
     {
         Book {
             offers: ArrayVec::new(),
         }
     }
 
-    // One offer more, whose schedules are exactly those of the published rule of its kind; whether there was room.
-    #[tactic(auto, using(crate::proofs::Rules::added_keeps))]
+    // One offer more, whose schedules are exactly those of the rule of its kind; whether there was room.
+    #[tactic(auto, using(crate::proofs::Rules::added_keeps, crate::proofs::Adding::adds_unit))]
     pub fn add(&mut self, offer: Offer) -> bool
         ensures room { result ≡ nat_lt (length self.old.offers.items) 64 }
         ensures offers { self.new.offers.items ≡ (if result then self.old.offers.items ++ (offer ∷ []) else self.old.offers.items) }
+        ensures meaning { let meaning = ⟦<Book as Fleet>⟧.meaning in MatchBool result (AddsUnit (meaning self.old) (meaning self.new) offer) (meaning self.new ≡ meaning self.old) }
         ensures untouched { result ≡ false → self.new ≡ self.old }
         ensures rule { KeepsRule offer }
     {
