@@ -11,7 +11,7 @@ use Rattle.reader.specs.Steps.{fair_places, lots_in}
 use Rattle.units.specs.Fill.{fill}
 use Rattle.units.specs.Links.{model_of}
 use Rattle.units.specs.BuyerUnits.{takes, taking, buyer_links}
-use Rattle.units.specs.BuyerRules.{BuyerObeys, buyer_cost, BuyerRule}
+use Rattle.units.specs.BuyerRules.{BuyerObeys, BuyerIn, buyer_cost, BuyerRule}
 use Rattle.units.proofs.Fills.{fill_small}
 use Rattle.units.proofs.Follow.{Story, Told, told_cost, Tracking, follows, reworded}
 use Rattle.units.proofs.SoundLinks.{SoundLinks}
@@ -50,7 +50,7 @@ same_cost ss (q ∷ qs) =
 
 pub buyer_stands : (ss : List Step) → BuyerRule ss
 buyer_stands ss =
-    reworded (model_of (buyer_links ss)) (Told (story ss) tt) (BuyerObeys ss) (told_cost (story ss) tt) (buyer_cost ss) (to_all ss) (from_all ss) (same_cost ss)
+    reworded (model_of (buyer_links ss)) (Told (story ss) tt) (BuyerObeys ss) BuyerIn BuyerIn (told_cost (story ss) tt) (buyer_cost ss) (to_all ss) (from_all ss) (λ qs t a l x. x) (same_cost ss)
     (follows (buyer_links ss) (story ss) go (λ h a. a ≡ 0) (tracking ss) tt refl)
 
 -- bounds --

@@ -1,5 +1,5 @@
 -- Schedules against a rule, for any unit whose states tell what the rule needs of the past. Assumes nothing.
-use Rattle.std.proofs.Common.{◌≡◌, ℕ, ◌+◌, ◌<◌, ◌≤◌, true, List, [], ◌∷◌, length, ℤ, pos, ◌+ℤ◌, Some, None, Option, nat_lt, refl, sym, ap, subst, ◌∙◌, inl, inr, arith}
+use Rattle.std.proofs.Common.{◌≡◌, ℕ, zero, suc, ◌+◌, ◌<◌, ◌≤◌, true, List, [], ◌∷◌, length, ℤ, pos, ◌+ℤ◌, Some, None, Option, nat_lt, refl, sym, ap, subst, ◌∙◌, inl, inr, arith}
 use Rattle.std.proofs.lemmas.Int.{ints}
 use Rattle.std.proofs.lemmas.Bool.{cases_Bool, cond-true, cond-false, and_parts, and_from, lt-ltb, ltb-true, false≢true}
 use Rattle.terms.specs.declared.entry.Entry.{Entry}
@@ -7,7 +7,7 @@ use Rattle.fleet.specs.declared.records.Range.{Range}
 use Rattle.fleet.specs.Units.{UnitModel, among, holds}
 use Rattle.fleet.specs.Schedules.{AllowedFrom, cost_from}
 use Rattle.units.specs.Links.{Links, joined, link_arc, model_of}
-use Rattle.units.specs.Agree.{outputs_of, Agrees}
+use Rattle.units.specs.Agree.{outputs_of, state_before, Agrees}
 
 -- an arc that contains an output --
 
@@ -59,6 +59,12 @@ abbrev pub told_cost : {H : Type 0} → Story H → H → List ℤ → ℤ
 told_cost s h [] = pos 0
 told_cost s h (q ∷ qs) = s.price h q +ℤ told_cost s (s.then h q) qs
 
+-- the past before period t
+abbrev pub past : {H : Type 0} → Story H → H → List ℤ → ℕ → H
+past s h qs zero = h
+past s h [] (suc t) = h
+past s h (q ∷ qs) (suc t) = past s (s.then h q) qs t
+
 -- from state a into state b with output q
 pub record Moves {H : Type 0} (l : Links) (s : Story H) (go : ℕ → ℤ → ℕ) (h : H) (a b : ℕ) (q : ℤ) : Type 0 where
   pub to : b ≡ go a q
@@ -94,15 +100,28 @@ record Found {H : Type 0} (l : Links) (s : Story H) (go : ℕ → ℤ → ℕ) (
 abbrev onto : (ℕ → ℤ → ℕ) → List ℤ → Entry → List Entry
 onto go qs e = e ∷ path go e.state qs
 
+pub as_long : (es : List Entry) → length (outputs_of es) ≡ length es
+as_long [] = refl
+as_long (e ∷ es) = ap suc (as_long es)
+
 module _ {H : Type 0} (l : Links) (s : Story H) (go : ℕ → ℤ → ℕ) (Tracks : H → ℕ → Type 0) (k : Tracking l s go Tracks) where
+  goes : (t a b : ℕ) (h : H) (q : ℤ) → Tracks h a → holds (link_arc l t a b) q ≡ true → Moves l s go h a b q
+  goes t a b h q x o = let d = held l t a b q o in k.moves a b h q x d.to d.linked d.among
+
+  after : (t a b : ℕ) (h : H) (q : ℤ) → Tracks h a → holds (link_arc l t a b) q ≡ true → Tracks (s.then h q) b
+  after t a b h q x o = let m = goes t a b h q x o in subst (Tracks (s.then h q)) (sym m.to) (k.next a h q x m.keeps)
+
+  tracked : (t a : ℕ) (h : H) → Tracks h a → (es : List Entry) → AllowedFrom (model_of l) t a es → (i : ℕ) → Tracks (past s h (outputs_of es) i) (state_before a es i)
+  tracked t a h x es al zero = x
+  tracked t a h x [] al (suc i) = x
+  tracked t a h x (e ∷ es) al (suc i) = tracked (t + 1) e.state (s.then h e.output) (after t a e.state h e.output x al.0) es al.1 i
+
   found : (t a : ℕ) (h : H) → Tracks h a → (es : List Entry) → AllowedFrom (model_of l) t a es → Found l s go h t a es
   found t a h x [] al = record { told = k.ends a h x (and_parts (nat_lt a l.states) _ al).1; costs = refl; is = refl }
   found t a h x (e ∷ es) al =
-      let d = held l t a e.state e.output al.0 in
-      let m = k.moves a e.state h e.output x d.to d.linked d.among in
-      let y = subst (Tracks (s.then h e.output)) (sym m.to) (k.next a h e.output x m.keeps) in
-      let g = found (t + 1) e.state (s.then h e.output) y es al.1 in
-      let c = d.cost in
+      let m = goes t a e.state h e.output x al.0 in
+      let g = found (t + 1) e.state (s.then h e.output) (after t a e.state h e.output x al.0) es al.1 in
+      let c = (held l t a e.state e.output al.0).cost in
       let p = m.price in
       let r = g.costs in
       let here : e ≡ step go a e.output = ap (λ b. record { state = b; output = e.output }) m.to in
@@ -124,19 +143,21 @@ module _ {H : Type 0} (l : Links) (s : Story H) (go : ℕ → ℤ → ℕ) (Trac
   outputs_path a [] = refl
   outputs_path a (q ∷ qs) = ap (λ z. q ∷ z) (outputs_path (go a q) qs)
 
-  pub follows : (h : H) → Tracks h l.start → Agrees (model_of l) (Told s h) (told_cost s h)
+  pub follows : (h : H) → Tracks h l.start → Agrees (model_of l) (Told s h) (λ qs t a. Tracks (past s h qs t) a) (told_cost s h)
   follows h x = record {
     found = λ qs i o. record { entries = path go l.start qs; allowed = walked 0 l.start h x qs (omega arith) o; outputs = outputs_path l.start qs };
     obeys = λ es al. (found 0 l.start h x es al).told;
     one = λ es fs al bl e. (found 0 l.start h x es al).is ∙ ap (path go l.start) e ∙ sym (found 0 l.start h x fs bl).is;
     costs = λ es al. (found 0 l.start h x es al).costs;
+    states = λ es al t _. tracked 0 l.start h x es al t;
   }
 
 -- the same rule in other words
-pub reworded : (p : UnitModel) (R S : List ℤ → Type 0) (f g : List ℤ → ℤ) → ((qs : List ℤ) → R qs → S qs) → ((qs : List ℤ) → S qs → R qs) → ((qs : List ℤ) → f qs ≡ g qs) → Agrees p R f → Agrees p S g
-reworded p R S f g to from same h = record {
+pub reworded : (p : UnitModel) (R S : List ℤ → Type 0) (I J : List ℤ → ℕ → ℕ → Type 0) (f g : List ℤ → ℤ) → ((qs : List ℤ) → R qs → S qs) → ((qs : List ℤ) → S qs → R qs) → ((qs : List ℤ) (t a : ℕ) → t ≤ length qs → I qs t a → J qs t a) → ((qs : List ℤ) → f qs ≡ g qs) → Agrees p R I f → Agrees p S J g
+reworded p R S I J f g to from in_state same h = record {
   found = λ qs i o. h.found qs i (from qs o);
   obeys = λ es al. to (outputs_of es) (h.obeys es al);
   one = h.one;
   costs = λ es al. h.costs es al ∙ same (outputs_of es);
+  states = λ es al t i. in_state (outputs_of es) t _ (subst (λ z. t ≤ z) (sym (as_long es)) i) (h.states es al t i);
 }

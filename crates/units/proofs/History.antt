@@ -1,12 +1,12 @@
 -- The rule of steam units period by period, each with the history before it. Assumes nothing.
-use Rattle.std.proofs.Common.{◌≡◌, ℕ, zero, suc, ◌-◌, Bool, List, [], ◌∷◌, length, ℤ, pos, ◌+ℤ◌, nat_le, slice_index_or, refl, sym, ap, subst, ◌∙◌, inl, inr, suc-le-suc, le_of_suc-le-suc, arith}
+use Rattle.std.proofs.Common.{◌≡◌, ℕ, zero, suc, ◌-◌, ◌≤◌, Bool, List, [], ◌∷◌, length, ℤ, pos, ◌+ℤ◌, nat_le, slice_index_or, refl, sym, ap, subst, ◌∙◌, inl, inr, suc-le-suc, le_of_suc-le-suc, arith}
 use Rattle.std.proofs.Math.Path.{fun_ext}
 use Rattle.std.proofs.lemmas.Bool.{cases_order, cond-true, cond-false, le-leb, lt-leb}
 use Rattle.terms.specs.Sums.{sum_to}
 use Rattle.terms.proofs.Sums.{sum_to_first}
 use Rattle.reader.specs.declared.numbers.SteamNumbers.{SteamNumbers}
-use Rattle.units.proofs.Follow.{Story, Told, told_cost}
-use Rattle.units.specs.SteamRules.{runs, status, Period, period_cost, ObeysAfter, cost_after}
+use Rattle.units.proofs.Follow.{Story, Told, told_cost, past}
+use Rattle.units.specs.SteamRules.{runs, status, Period, period_cost, ObeysAfter, cost_after, history}
 
 -- a history with one more period
 abbrev pub push : Bool → (ℕ → Bool) → ℕ → Bool
@@ -21,9 +21,12 @@ story n = record {
   price = λ h q. period_cost n (push (runs q) h) q;
 }
 
+status_begin : (h : ℕ → Bool) (qs : List ℤ) (k : ℕ) → status h qs 0 (suc k) ≡ h k
+status_begin h qs k = let e : suc k - 0 - 1 ≡ k = omega arith in cond-false (nat_le (suc k) 0) _ _ (lt-leb (suc k) 0 (omega arith)) ∙ ap h e
+
 status_first : (h : ℕ → Bool) (q : ℤ) (qs : List ℤ) (k : ℕ) → status h (q ∷ qs) 0 k ≡ push (runs q) h k
 status_first h q qs zero = refl
-status_first h q qs (suc k) = let e : suc k - 0 - 1 ≡ k = omega arith in cond-false (nat_le (suc k) 0) _ _ (lt-leb (suc k) 0 (omega arith)) ∙ ap h e
+status_first h q qs (suc k) = status_begin h (q ∷ qs) k
 
 status_next : (h : ℕ → Bool) (q : ℤ) (qs : List ℤ) (t k : ℕ) → status h (q ∷ qs) (suc t) k ≡ status (push (runs q) h) qs t k
 status_next h q qs t k =
@@ -71,3 +74,8 @@ same_total n h (q ∷ qs) =
     ∙ ap (λ w. period_cost n w q +ℤ sum_to (length qs) (λ t. period_cost n (status h (q ∷ qs) (suc t)) (slice_index_or qs t (pos 0)))) (at_first h q qs)
     ∙ ap (λ f. period_cost n (push (runs q) h) q +ℤ sum_to (length qs) f) (fun_ext (λ t. ap (λ w. period_cost n w (slice_index_or qs t (pos 0))) (at_next h q qs t)))
     ∙ ap (λ z. period_cost n (push (runs q) h) q +ℤ z) (same_total n (push (runs q) h) qs)
+
+pub past_history : (n : SteamNumbers) (h : ℕ → Bool) (qs : List ℤ) (t : ℕ) → t ≤ length qs → past (story n) h qs t ≡ history h qs t
+past_history n h qs zero l = fun_ext (λ k. sym (status_begin h qs k))
+past_history n h [] (suc t) l = absurd (omega arith)
+past_history n h (q ∷ qs) (suc t) l = past_history n (push (runs q) h) qs t (le_of_suc-le-suc l) ∙ fun_ext (λ k. sym (status_next h q qs t (suc k)))

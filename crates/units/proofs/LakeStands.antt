@@ -10,10 +10,10 @@ use Rattle.fleet.proofs.Arcs.{among_low, among_high, among_from}
 use Rattle.reader.specs.declared.numbers.LakeNumbers.{LakeNumbers}
 use Rattle.units.specs.Links.{model_of}
 use Rattle.units.specs.LakeUnits.{drawn, flow, may_flow, distance, lake_links}
-use Rattle.units.specs.LakeRules.{rise_of, Flows, moved, level_before, LakeFrom, LakeObeys, lake_cost, LakeRule}
+use Rattle.units.specs.LakeRules.{rise_of, Flows, moved, level_before, LakeFrom, LakeObeys, LakeIn, lake_cost, LakeRule}
 use Rattle.units.proofs.Draws.{one_to_one, draws_something}
 use Rattle.units.proofs.Fairs.{FairLake}
-use Rattle.units.proofs.Follow.{Story, Told, told_cost, Tracking, Moves, Moved, follows, reworded}
+use Rattle.units.proofs.Follow.{Story, Told, told_cost, past, Tracking, Moves, Moved, follows, reworded}
 use Rattle.units.proofs.SoundLinks.{SoundLinks}
 
 -- what an output says of the level --
@@ -226,6 +226,11 @@ same_wear n l (q ∷ qs) =
     ap (λ z. pos (n.wear * unsigned_abs (moved q)) +ℤ z) (same_wear n (l +ℤ moved q) qs)
     ∙ sym (sum_to_first (length qs) (λ t. pos (n.wear * unsigned_abs (moved (slice_index_or (q ∷ qs) t (pos 0))))))
 
+past_level : (n : LakeNumbers) (l : ℤ) (qs : List ℤ) (t : ℕ) → t ≤ length qs → past (story n) l qs t ≡ level_before l qs t
+past_level n l qs zero i = sym (at_first l qs)
+past_level n l [] (suc t) i = absurd (omega arith)
+past_level n l (q ∷ qs) (suc t) i = past_level n (l +ℤ moved q) qs t (le_of_suc-le-suc i) ∙ sym (level_next l q qs t)
+
 level_few : (n : LakeNumbers) → FairLake n → pos n.was ≤ℤ pos n.full
 level_few n f = let w = f.was in omega (arith, ints)
 
@@ -235,8 +240,8 @@ some_level a = omega (arith, ints)
 pub lake_stands : (n : LakeNumbers) → FairLake n → LakeRule n
 lake_stands n f =
     let l = pos n.was in (
-      reworded (model_of (lake_links n)) (Told (story n) l) (LakeObeys n) (told_cost (story n) l) (lake_cost n)
-          (λ qs o. to_whole n l qs (some_level n.was) (level_few n f) o) (from_whole n l) (same_wear n l)
+      reworded (model_of (lake_links n)) (Told (story n) l) (LakeObeys n) (λ qs t a. At n (past (story n) l qs t) a) (LakeIn n) (told_cost (story n) l) (lake_cost n)
+          (λ qs o. to_whole n l qs (some_level n.was) (level_few n f) o) (from_whole n l) (λ qs t a i x. sym x.is ∙ past_level n l qs t i) (same_wear n l)
           (follows (lake_links n) (story n) go (At n) (tracking n) l (record { is = refl; within = f.was })),
       one_to_one,
     )

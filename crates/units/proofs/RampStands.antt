@@ -16,10 +16,10 @@ use Rattle.units.specs.Fill.{fill}
 use Rattle.units.specs.Links.{model_of}
 use Rattle.units.specs.RampUnits.{output_in, state_at, may_move, just, ramp_charge, ramp_links}
 use Rattle.units.specs.SteamRules.{runs}
-use Rattle.units.specs.RampRules.{RampedBy, Ramped, RampObeys, ramp_period, ramp_cost, RampRule}
+use Rattle.units.specs.RampRules.{RampedBy, Ramped, RampObeys, StateOf, RampIn, ramp_period, ramp_cost, RampRule}
 use Rattle.units.proofs.Fairs.{FairRun, FairRamp}
 use Rattle.units.proofs.Fills.{fill_small}
-use Rattle.units.proofs.Follow.{Story, Told, told_cost, Tracking, Moves, Moved, follows, reworded}
+use Rattle.units.proofs.Follow.{Story, Told, told_cost, past, Tracking, Moves, Moved, follows, reworded}
 use Rattle.units.proofs.SoundLinks.{SoundLinks}
 
 -- 0, or lo to hi
@@ -176,10 +176,19 @@ same_cost k p (q ∷ qs) =
     ap (λ z. ramp_period k p q +ℤ z) (same_cost k q qs)
     ∙ sym (sum_to_first (length qs) (λ t. ramp_period k (slice_index_or (p ∷ q ∷ qs) t (pos 0)) (slice_index_or (q ∷ qs) t (pos 0))))
 
+past_output : (k : RampNumbers) (p : ℤ) (qs : List ℤ) (t : ℕ) → t ≤ length qs → past (story k) p qs t ≡ slice_index_or (p ∷ qs) t (pos 0)
+past_output k p qs zero l = refl
+past_output k p [] (suc t) l = absurd (omega arith)
+past_output k p (q ∷ qs) (suc t) l = past_output k q qs t (le_of_suc-le-suc l)
+
+state_as : (k : RampNumbers) (p : ℤ) (a : ℕ) → p ≡ pos (output_in k.run a) → StateOf k p a
+state_as k p zero e = e
+state_as k p (suc j) e = let o : output_in k.run (suc j) ≡ k.run.lo + j = grind (arith, nat_tests) in e ∙ ap pos o
+
 pub ramp_stands : (k : RampNumbers) → FairRamp k → RampRule k
 ramp_stands k f =
     let p = pos k.was in
-    reworded (model_of (ramp_links k)) (Told (story k) p) (RampObeys k) (told_cost (story k) p) (ramp_cost k) (to_all k p) (from_all k p) (same_cost k p)
+    reworded (model_of (ramp_links k)) (Told (story k) p) (RampObeys k) (λ qs t a. At k (past (story k) p qs t) a) (RampIn k) (told_cost (story k) p) (ramp_cost k) (to_all k p) (from_all k p) (λ qs t a l x. state_as k _ a (sym (past_output k p qs t l) ∙ x.is)) (same_cost k p)
     (follows (ramp_links k) (story k) (go k) (At k) (tracking k f) p (starts k f))
 
 -- bounds --

@@ -11,13 +11,13 @@ use Rattle.reader.specs.declared.numbers.SteamNumbers.{SteamNumbers}
 use Rattle.units.specs.Fill.{fill}
 use Rattle.units.specs.Links.{model_of}
 use Rattle.units.specs.SteamUnits.{is_on, goes_to, may, steam_linked, steam_outputs, starting, steam_charge, steam_links}
-use Rattle.units.specs.SteamRules.{runs, before_day, Period, period_cost, SteamObeys, steam_cost, SteamRule}
+use Rattle.units.specs.SteamRules.{runs, before_day, Period, period_cost, SteamObeys, StateAfter, SteamIn, steam_cost, SteamRule}
 use Rattle.units.proofs.Fairs.{FairSteam}
 use Rattle.units.proofs.Fills.{fill_small}
-use Rattle.units.proofs.Follow.{Told, told_cost, Tracking, Moves, Moved, follows, reworded}
+use Rattle.units.proofs.Follow.{Told, told_cost, past, Tracking, Moves, Moved, follows, reworded}
 use Rattle.units.proofs.SoundLinks.{SoundLinks}
-use Rattle.units.proofs.History.{push, story, to_each, from_each, same_total}
-use Rattle.units.proofs.Track.{Tracks, tracks_within, tracks_next, tracks_first, run_window, same_start}
+use Rattle.units.proofs.History.{push, story, to_each, from_each, same_total, past_history}
+use Rattle.units.proofs.Track.{Tracks, tracks_within, tracks_of, state_more, state_first, run_window, same_start}
 
 -- an output of the arcs into on, or off, states is on, or off
 runs_as : (n : SteamNumbers) (f : FairSteam n) (s : Bool) (q : ℤ) → among (steam_outputs n.run s) q ≡ true → runs q ≡ s
@@ -120,12 +120,12 @@ moved n f a h q x k = record {
   among = subst (λ z. among (steam_outputs n.run z) q ≡ true) (sym (goes_class n f a (runs q))) (outputs_of_period n h q (runs q) k);
 }
 
-tracking : (n : SteamNumbers) → FairSteam n → Tracking (steam_links n) (story n) (go n) (Tracks n)
+tracking : (n : SteamNumbers) → FairSteam n → Tracking (steam_links n) (story n) (go n) (StateAfter n.rest)
 tracking n f = record {
-  within = λ a h x. tracks_within n h a x;
-  moves = λ a b h q x l y o. moves n f a b h q x y o;
-  moved = λ a h q x k. moved n f a h q x k;
-  next = λ a h q x k. tracks_next n f h a (runs q) x;
+  within = λ a h x. tracks_within n h a (tracks_of n f h a x);
+  moves = λ a b h q x l y o. moves n f a b h q (tracks_of n f h a x) y o;
+  moved = λ a h q x k. moved n f a h q (tracks_of n f h a x) k;
+  next = λ a h q x k. state_more n f h a (runs q) x;
   ends = λ a h x e. tt;
   ended = λ a h x e. refl;
 }
@@ -133,8 +133,8 @@ tracking n f = record {
 pub steam_stands : (n : SteamNumbers) → FairSteam n → SteamRule n
 steam_stands n f =
     let h = before_day n.was in
-    reworded (model_of (steam_links n)) (Told (story n) h) (SteamObeys n) (told_cost (story n) h) (steam_cost n) (from_each n h) (to_each n h) (λ qs. sym (same_total n h qs))
-    (follows (steam_links n) (story n) (go n) (Tracks n) (tracking n f) h (tracks_first n f))
+    reworded (model_of (steam_links n)) (Told (story n) h) (SteamObeys n) (λ qs t a. StateAfter n.rest (past (story n) h qs t) a) (SteamIn n) (told_cost (story n) h) (steam_cost n) (from_each n h) (to_each n h) (λ qs t a l. subst (λ w. StateAfter n.rest w a) (past_history n h qs t l)) (λ qs. sym (same_total n h qs))
+    (follows (steam_links n) (story n) (go n) (StateAfter n.rest) (tracking n f) h (state_first n f))
 
 -- bounds --
 
@@ -164,7 +164,7 @@ steam_sound n f =
     record {
       some_state = omega arith;
       few_states = omega arith;
-      starts = tracks_within n _ _ (tracks_first n f);
+      starts = tracks_within n _ _ (tracks_of n f _ _ (state_first n f));
       outputs = λ a b i j y. sound_outputs n f (is_on n.rest b);
       costs = λ a b q i j y o. charge_near n f a (unsigned_abs q) (is_on n.rest b) (near_abs 500 q (output_near n f (is_on n.rest b) q o));
     }

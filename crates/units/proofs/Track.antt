@@ -1,11 +1,12 @@
 -- A state of a steam unit tells the run of its history. Assumes nothing.
 use Rattle.std.proofs.Common.{◌≡◌, ℕ, zero, suc, ◌+◌, ◌-◌, ◌<◌, ◌≤◌, min, Bool, true, false, cond, not, ◌⊎◌, ◌≢◌, nat_le, nat_lt, refl, sym, ap, subst, ◌∙◌, inl, inr, arith}
+use Rattle.std.proofs.lemmas.Bool.Decides.{nat_tests}
 use Rattle.std.proofs.lemmas.Bool.{cases_lt, cases_Bool, cond-true, cond-false, le-leb, lt-leb, lt-ltb, le-ltb, leb-true, leb-false, and_parts, and_from, not-true, not_from_false, true≢false}
+use Rattle.reader.specs.declared.numbers.Rest.{Rest}
 use Rattle.reader.specs.declared.numbers.Was.{Was}
-use Rattle.reader.specs.declared.numbers.Was.TheVariants.{On, Off}
 use Rattle.reader.specs.declared.numbers.SteamNumbers.{SteamNumbers}
 use Rattle.units.specs.SteamUnits.{was_on, was_for, after_periods, goes_to, starting}
-use Rattle.units.specs.SteamRules.{before_day, all_off, start_cost}
+use Rattle.units.specs.SteamRules.{before_day, all_off, start_cost, RunsFor, run_state, StateAfter}
 use Rattle.units.proofs.Fairs.{FairSteam}
 use Rattle.units.proofs.History.{push}
 
@@ -15,23 +16,13 @@ pub record Run (h : ℕ → Bool) (b : Bool) (n cap : ℕ) : Type 0 where
   pub short : suc n < cap → h (suc n) ≡ not b
   pub fits : n < cap
 
-more_same : (h : ℕ → Bool) (b : Bool) (n m : ℕ) → ((k : ℕ) → k ≤ n → h k ≡ b) → m ≤ suc n → (k : ℕ) → k ≤ m → push b h k ≡ b
-more_same h b n m s l zero i = refl
-more_same h b n m s l (suc k) i = s k (omega arith)
-
-pub run_more : (h : ℕ → Bool) (b : Bool) (n cap : ℕ) → Run h b n cap → Run (push b h) b (min (n + 1) (cap - 1)) cap
-run_more h b n cap r = let f = r.fits in record {
-  same = more_same h b n (min (n + 1) (cap - 1)) r.same (omega arith);
-  short = λ l. let e : suc n ≡ min (n + 1) (cap - 1) = omega arith in subst (λ k. h k ≡ not b) e (r.short (omega arith));
+-- the run at the end of a history, up to the cap
+run_to : (h : ℕ → Bool) (b : Bool) (i cap : ℕ) → 1 ≤ cap → RunsFor h b i → Run h b (min i cap - 1) cap
+run_to h b i cap c r = let s = r.some in record {
+  same = λ k l. r.same k (omega arith);
+  short = λ l. let e : i ≡ suc (min i cap - 1) = omega arith in subst (λ k. h k ≡ not b) e r.other;
   fits = omega arith;
 }
-
-new_same : (h : ℕ → Bool) (b : Bool) (k : ℕ) → k ≤ 0 → push b h k ≡ b
-new_same h b zero i = refl
-new_same h b (suc k) i = absurd (omega arith)
-
-pub run_new : (h : ℕ → Bool) (b : Bool) (cap : ℕ) → 1 ≤ cap → h 0 ≡ not b → Run (push b h) b 0 cap
-run_new h b cap l e = record { same = new_same h b; short = λ _. e; fits = l }
 
 never : (b : Bool) → b ≢ not b
 never true e = true≢false e
@@ -61,54 +52,62 @@ pub tracks_within : (r : SteamNumbers) (h : ℕ → Bool) (a : ℕ) → Tracks r
 tracks_within r h a (inl x) = let l = x.at in omega arith
 tracks_within r h a (inr x) = let l = x.at in let f = x.run.fits in omega arith
 
+cold_some : (r : SteamNumbers) → FairSteam r → 1 ≤ r.rest.cold
+cold_some r f = let d = f.down in let c = f.rest in omega arith
+
+state_tracks : (r : SteamNumbers) (f : FairSteam r) (h : ℕ → Bool) (b : Bool) (i : ℕ) → RunsFor h b i → Tracks r h (run_state r.rest b i)
+state_tracks r f h true i x = let u = f.up in let s = x.some in inl (record { at = omega arith; run = run_to h true i r.rest.up u x })
+state_tracks r f h false i x =
+    let c = cold_some r f in
+    let s = x.some in
+    let e : min i r.rest.cold - 1 ≡ r.rest.up + min i r.rest.cold - 1 - r.rest.up = omega arith in
+    inr (record { at = omega arith; run = subst (λ n. Run h false n r.rest.cold) e (run_to h false i r.rest.cold c x) })
+
+pub tracks_of : (r : SteamNumbers) (f : FairSteam r) (h : ℕ → Bool) (a : ℕ) → StateAfter r.rest h a → Tracks r h a
+tracks_of r f h a x = subst (Tracks r h) (sym x.is) (state_tracks r f h x.on x.periods x.run)
+
+-- one period more
+on_same : (h : ℕ → Bool) (b : Bool) (i : ℕ) → ((k : ℕ) → k < i → h k ≡ b) → (k : ℕ) → k < suc i → push b h k ≡ b
+on_same h b i s zero l = refl
+on_same h b i s (suc k) l = s k (omega arith)
+
+new_same : (h : ℕ → Bool) (b : Bool) (k : ℕ) → k < 1 → push b h k ≡ b
+new_same h b zero l = refl
+new_same h b (suc k) l = absurd (omega arith)
+
+run_on : (h : ℕ → Bool) (b : Bool) (i : ℕ) → RunsFor h b i → RunsFor (push b h) b (suc i)
+run_on h b i r = record { some = omega arith; same = on_same h b i r.same; other = r.other }
+
+run_new : (h : ℕ → Bool) (b : Bool) (i : ℕ) → RunsFor h (not b) i → RunsFor (push b h) b 1
+run_new h b i r = let s = r.some in record { some = omega arith; same = new_same h b; other = r.same 0 (omega arith) }
+
+state_next : (r : SteamNumbers) (f : FairSteam r) (h : ℕ → Bool) (b s : Bool) (i : ℕ) → RunsFor h b i → StateAfter r.rest (push s h) (goes_to r.rest (run_state r.rest b i) s)
+state_next r f h true true i x = let u = f.up in let n = x.some in record { on = true; periods = suc i; run = run_on h true i x; is = grind (arith, nat_tests) }
+state_next r f h false true i x = let u = f.up in let c = cold_some r f in let n = x.some in record { on = true; periods = 1; run = run_new h true i x; is = grind (arith, nat_tests) }
+state_next r f h true false i x = let u = f.up in let c = cold_some r f in let n = x.some in record { on = false; periods = 1; run = run_new h false i x; is = grind (arith, nat_tests) }
+state_next r f h false false i x = let u = f.up in let c = cold_some r f in let n = x.some in record { on = false; periods = suc i; run = run_on h false i x; is = grind (arith, nat_tests) }
+
 -- the state after tells the history after
-pub tracks_next : (r : SteamNumbers) (f : FairSteam r) (h : ℕ → Bool) (a : ℕ) (s : Bool) → Tracks r h a → Tracks r (push s h) (goes_to r.rest a s)
-tracks_next r f h a true (inl x) =
-    let u = f.up in
-    subst (Tracks r (push true h)) (sym (cond-true (nat_lt a r.rest.up) (min (a + 1) (r.rest.up - 1)) 0 (lt-ltb a r.rest.up x.at)))
-    (inl (record { at = omega arith; run = run_more h true a r.rest.up x.run }))
-tracks_next r f h a true (inr x) =
-    subst (Tracks r (push true h)) (sym (cond-false (nat_lt a r.rest.up) (min (a + 1) (r.rest.up - 1)) 0 (le-ltb a r.rest.up x.at)))
-    (inl (record { at = f.up; run = run_new h true r.rest.up f.up (x.run.same 0 (omega arith)) }))
-tracks_next r f h a false (inl x) =
-    let d = f.down in
-    let c = f.rest in
-    let e : 0 ≡ r.rest.up - r.rest.up = omega arith in
-    subst (Tracks r (push false h)) (sym (cond-true (nat_lt a r.rest.up) r.rest.up (r.rest.up + min (a + 1 - r.rest.up) (r.rest.cold - 1)) (lt-ltb a r.rest.up x.at)))
-    (inr (record { at = omega arith; run = subst (λ n. Run (push false h) false n r.rest.cold) e (run_new h false r.rest.cold (omega arith) (x.run.same 0 (omega arith))) }))
-tracks_next r f h a false (inr x) =
-    let l = x.at in
-    let e : min (a - r.rest.up + 1) (r.rest.cold - 1) ≡ r.rest.up + min (a + 1 - r.rest.up) (r.rest.cold - 1) - r.rest.up = omega arith in
-    subst (Tracks r (push false h)) (sym (cond-false (nat_lt a r.rest.up) r.rest.up (r.rest.up + min (a + 1 - r.rest.up) (r.rest.cold - 1)) (le-ltb a r.rest.up x.at)))
-    (inr (record { at = omega arith; run = subst (λ n. Run (push false h) false n r.rest.cold) e (run_more h false (a - r.rest.up) r.rest.cold x.run) }))
+pub state_more : (r : SteamNumbers) (f : FairSteam r) (h : ℕ → Bool) (a : ℕ) (s : Bool) → StateAfter r.rest h a → StateAfter r.rest (push s h) (goes_to r.rest a s)
+state_more r f h a s x = subst (λ z. StateAfter r.rest (push s h) (goes_to r.rest z s)) (sym x.is) (state_next r f h x.on s x.periods x.run)
 
 -- the run that stands before the day
-run_before : (w : Was) (cap : ℕ) → 1 ≤ was_for w → 1 ≤ cap → Run (before_day w) (was_on w) (min (was_for w) cap - 1) cap
-run_before w cap i j =
+run_before : (w : Was) → 1 ≤ was_for w → RunsFor (before_day w) (was_on w) (was_for w)
+run_before w i =
     let b = was_on w in
     let m = was_for w in
     record {
+      some = i;
       same = λ k l. cond-true (nat_le (suc k) m) b (not b) (le-leb (suc k) m (omega arith));
-      short = λ l. cond-false (nat_le (suc (suc (min m cap - 1))) m) b (not b) (lt-leb (suc (suc (min m cap - 1))) m (omega arith));
-      fits = omega arith;
+      other = cond-false (nat_le (suc m) m) b (not b) (lt-leb (suc m) m (omega arith));
     }
 
-tracks_on : (r : SteamNumbers) (f : FairSteam r) (m : ℕ) → 1 ≤ m → Tracks r (before_day (On m)) (after_periods r.rest true m)
-tracks_on r f m i = let u = f.up in inl (record { at = omega arith; run = run_before (On m) r.rest.up i f.up })
+same_state : (r : Rest) (b : Bool) (m : ℕ) → after_periods r b m ≡ run_state r b m
+same_state r true m = refl
+same_state r false m = refl
 
-tracks_off : (r : SteamNumbers) (f : FairSteam r) (m : ℕ) → 1 ≤ m → Tracks r (before_day (Off m)) (after_periods r.rest false m)
-tracks_off r f m i =
-    let d = f.down in
-    let c = f.rest in
-    let e : min m r.rest.cold - 1 ≡ r.rest.up + min m r.rest.cold - 1 - r.rest.up = omega arith in
-    inr (record { at = omega arith; run = subst (λ n. Run (before_day (Off m)) false n r.rest.cold) e (run_before (Off m) r.rest.cold i (omega arith)) })
-
-tracks_was : (r : SteamNumbers) (f : FairSteam r) (w : Was) → 1 ≤ was_for w → Tracks r (before_day w) (after_periods r.rest (was_on w) (was_for w))
-tracks_was r f (On m) i = tracks_on r f m i
-tracks_was r f (Off m) i = tracks_off r f m i
-
-pub tracks_first : (r : SteamNumbers) (f : FairSteam r) → Tracks r (before_day r.was) (after_periods r.rest (was_on r.was) (was_for r.was))
-tracks_first r f = tracks_was r f r.was f.since
+pub state_first : (r : SteamNumbers) (f : FairSteam r) → StateAfter r.rest (before_day r.was) (after_periods r.rest (was_on r.was) (was_for r.was))
+state_first r f = record { on = was_on r.was; periods = was_for r.was; run = run_before r.was f.since; is = same_state r.rest (was_on r.was) (was_for r.was) }
 
 -- a window of off periods, as a test
 all_off_true : (was : ℕ → Bool) (n : ℕ) → all_off was n ≡ true → (k : ℕ) → k < n → was (suc k) ≡ false

@@ -1,5 +1,5 @@
 -- What it is that a unit's schedules are those of a rule on its outputs. Assumes nothing.
-use Rattle.std.specs.Prelude.{◌≡◌, ◌≤◌, List, [], ◌∷◌, length, ℤ}
+use Rattle.std.specs.Prelude.{◌≡◌, ℕ, zero, suc, ◌≤◌, List, [], ◌∷◌, length, ℤ}
 use Rattle.terms.specs.declared.entry.Entry.{Entry}
 use Rattle.fleet.specs.Units.{UnitModel}
 use Rattle.fleet.specs.Schedules.{Allowed, cost_of}
@@ -15,11 +15,19 @@ pub record Shows (p : UnitModel) (qs : List ℤ) : Type 0 where
   pub allowed : Allowed p entries
   pub outputs : outputs_of entries ≡ qs
 
--- the outputs that obey the rule are exactly those of the allowed schedules, each of one alone, at the rule's cost
-pub record Agrees (p : UnitModel) (Obeys : List ℤ → Type 0) (price : List ℤ → ℤ) : Type 0 where
+-- the state before the schedule's period t, and after its last, where it starts in state a
+abbrev pub state_before : ℕ → List Entry → ℕ → ℕ
+state_before a es zero = a
+state_before a [] (suc t) = a
+state_before a (e ∷ es) (suc t) = state_before e.state es t
+
+-- the outputs that obey the rule are exactly those of the allowed schedules, each of one alone, at the rule's cost and
+-- in the rule's states: `InState qs t a` says that a is the state before period t by the outputs before it
+pub record Agrees (p : UnitModel) (Obeys : List ℤ → Type 0) (InState : List ℤ → ℕ → ℕ → Type 0) (price : List ℤ → ℤ) : Type 0 where
   -- none is missing
   pub found : (qs : List ℤ) → length qs ≤ 48 → Obeys qs → Shows p qs
   -- none is added
   pub obeys : (es : List Entry) → Allowed p es → Obeys (outputs_of es)
   pub one : (es fs : List Entry) → Allowed p es → Allowed p fs → outputs_of es ≡ outputs_of fs → es ≡ fs
   pub costs : (es : List Entry) → Allowed p es → cost_of p es ≡ price (outputs_of es)
+  pub states : (es : List Entry) → Allowed p es → (t : ℕ) → t ≤ length es → InState (outputs_of es) t (state_before p.start es t)

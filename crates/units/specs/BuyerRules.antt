@@ -1,5 +1,5 @@
 -- The rule of buyers, on outputs alone. Assumes nothing.
-use Rattle.std.specs.Prelude.{ℕ, ◌<◌, List, length, ℤ, pos, neg_ℤ, ◌≤ℤ◌, slice_index_or}
+use Rattle.std.specs.Prelude.{◌≡◌, ℕ, ◌<◌, List, length, ℤ, pos, neg_ℤ, ◌≤ℤ◌, slice_index_or}
 use Rattle.terms.specs.Sums.{sum_to}
 use Rattle.reader.specs.declared.steps.Step.{Step}
 use Rattle.reader.specs.Steps.{lots_in}
@@ -15,5 +15,9 @@ BuyerObeys ss qs = (t : ℕ) → t < length qs → (neg_ℤ (pos (lots_in ss)) �
 abbrev pub buyer_cost : List Step → List ℤ → ℤ
 buyer_cost ss qs = sum_to (length qs) (λ t. taking ss (slice_index_or qs t (pos 0)))
 
+-- it has one state
+abbrev pub BuyerIn : List ℤ → ℕ → ℕ → Type 0
+BuyerIn qs t a = a ≡ 0
+
 abbrev pub BuyerRule : List Step → Type 0
-BuyerRule ss = Agrees (model_of (buyer_links ss)) (BuyerObeys ss) (buyer_cost ss)
+BuyerRule ss = Agrees (model_of (buyer_links ss)) (BuyerObeys ss) BuyerIn (buyer_cost ss)

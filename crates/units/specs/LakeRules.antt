@@ -51,5 +51,9 @@ LakeObeys n qs = LakeFrom n (pos n.was) qs
 abbrev pub lake_cost : LakeNumbers → List ℤ → ℤ
 lake_cost n qs = sum_to (length qs) (λ t. pos (n.wear * unsigned_abs (moved (slice_index_or qs t (pos 0)))))
 
+-- the state is the level
+abbrev pub LakeIn : LakeNumbers → List ℤ → ℕ → ℕ → Type 0
+LakeIn n qs t a = pos a ≡ level_before (pos n.was) qs t
+
 abbrev pub LakeRule : LakeNumbers → Type 0
-LakeRule n = Agrees (model_of (lake_links n)) (LakeObeys n) (lake_cost n) × OneToOne
+LakeRule n = Agrees (model_of (lake_links n)) (LakeObeys n) (LakeIn n) (lake_cost n) × OneToOne

@@ -17,7 +17,7 @@ offer_links (Ramp o) = ramp_links o.numbers
 offer_links (Lake o) = lake_links o.numbers
 offer_links (Buyer o) = buyer_links o.steps.places
 
--- the offer's schedules are exactly those of the published rule of its kind, at its cost
+-- the offer's schedules are exactly those of the rule of its kind, at its cost and in its states
 abbrev pub KeepsRule : Offer → Type 0
 KeepsRule (Steam o) = SteamRule o.numbers
 KeepsRule (Ramp o) = RampRule o.numbers

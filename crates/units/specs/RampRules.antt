@@ -1,5 +1,5 @@
--- The published rule of ramp units, on outputs alone. Assumes nothing.
-use Rattle.std.specs.Prelude.{ℕ, ◌+◌, ◌-◌, ◌*◌, ◌<◌, cond, List, ◌∷◌, length, ℤ, pos, ◌+ℤ◌, ◌-ℤ◌, ◌≤ℤ◌, slice_index_or, unsigned_abs}
+-- The rule of ramp units, on outputs alone. Assumes nothing.
+use Rattle.std.specs.Prelude.{◌≡◌, ℕ, zero, suc, ◌+◌, ◌-◌, ◌*◌, ◌<◌, cond, List, ◌∷◌, length, ℤ, pos, ◌+ℤ◌, ◌-ℤ◌, ◌≤ℤ◌, slice_index_or, unsigned_abs}
 use Rattle.terms.specs.Sums.{sum_to}
 use Rattle.reader.specs.declared.numbers.RampNumbers.{RampNumbers}
 use Rattle.units.specs.Fill.{fill}
@@ -37,5 +37,14 @@ ramp_period n p q = cond (runs q) (pos (n.idle + cond (runs p) 0 n.start) +ℤ f
 abbrev pub ramp_cost : RampNumbers → List ℤ → ℤ
 ramp_cost n qs = sum_to (length qs) (λ t. ramp_period n (previous n qs t) (slice_index_or qs t (pos 0)))
 
+-- off is state 0, and output LO + j is state j + 1
+abbrev pub StateOf : RampNumbers → ℤ → ℕ → Type 0
+StateOf n q zero = q ≡ pos 0
+StateOf n q (suc j) = q ≡ pos (n.run.lo + j)
+
+-- the state is that of the output before
+abbrev pub RampIn : RampNumbers → List ℤ → ℕ → ℕ → Type 0
+RampIn n qs t a = StateOf n (previous n qs t) a
+
 abbrev pub RampRule : RampNumbers → Type 0
-RampRule n = Agrees (model_of (ramp_links n)) (RampObeys n) (ramp_cost n)
+RampRule n = Agrees (model_of (ramp_links n)) (RampObeys n) (RampIn n) (ramp_cost n)

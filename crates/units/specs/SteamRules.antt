@@ -1,6 +1,7 @@
--- The published rule of steam units, on outputs alone. Assumes nothing.
-use Rattle.std.specs.Prelude.{◌≡◌, ℕ, zero, suc, ◌+◌, ◌-◌, ◌<◌, ◌≤◌, Bool, true, false, cond, not, ◌&&◌, List, length, ℤ, pos, ◌+ℤ◌, ◌≤ℤ◌, int_lt, nat_le, slice_index_or, unsigned_abs}
+-- The rule of steam units, on outputs alone. Assumes nothing.
+use Rattle.std.specs.Prelude.{◌≡◌, ℕ, zero, suc, ◌+◌, ◌-◌, ◌<◌, ◌≤◌, min, Bool, true, false, cond, not, ◌&&◌, List, length, ℤ, pos, ◌+ℤ◌, ◌≤ℤ◌, int_lt, nat_le, slice_index_or, unsigned_abs}
 use Rattle.terms.specs.Sums.{sum_to}
+use Rattle.reader.specs.declared.numbers.Rest.{Rest}
 use Rattle.reader.specs.declared.numbers.Was.{Was}
 use Rattle.reader.specs.declared.numbers.SteamNumbers.{SteamNumbers}
 use Rattle.units.specs.Fill.{fill}
@@ -55,5 +56,30 @@ SteamObeys n qs = ObeysAfter n (before_day n.was) qs
 abbrev pub steam_cost : SteamNumbers → List ℤ → ℤ
 steam_cost n qs = cost_after n (before_day n.was) qs
 
+-- whether it was on k + 1 periods before period t
+abbrev pub history : (ℕ → Bool) → List ℤ → ℕ → ℕ → Bool
+history past qs t k = status past qs t (suc k)
+
+-- at the end of its history, in which `was 0` is the last period, it was on, or off, for i periods and no longer
+pub record RunsFor (was : ℕ → Bool) (on : Bool) (i : ℕ) : Type 0 where
+  pub some : 1 ≤ i
+  pub same : (k : ℕ) → k < i → was k ≡ on
+  pub other : was i ≡ not on
+
+-- on for i periods is state i - 1, for UP or more UP - 1; off for i periods is UP + i - 1, for COLD or more UP + COLD - 1
+abbrev pub run_state : Rest → Bool → ℕ → ℕ
+run_state r true i = min i r.up - 1
+run_state r false i = r.up + min i r.cold - 1
+
+-- the state is that of the run at the end of the history
+pub record StateAfter (r : Rest) (was : ℕ → Bool) (a : ℕ) : Type 0 where
+  pub on : Bool
+  pub periods : ℕ
+  pub run : RunsFor was on periods
+  pub is : a ≡ run_state r on periods
+
+abbrev pub SteamIn : SteamNumbers → List ℤ → ℕ → ℕ → Type 0
+SteamIn n qs t a = StateAfter n.rest (history (before_day n.was) qs t) a
+
 abbrev pub SteamRule : SteamNumbers → Type 0
-SteamRule n = Agrees (model_of (steam_links n)) (SteamObeys n) (steam_cost n)
+SteamRule n = Agrees (model_of (steam_links n)) (SteamObeys n) (SteamIn n) (steam_cost n)

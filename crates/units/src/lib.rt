@@ -1,4 +1,4 @@
-// One offer as a unit: its states, and that its schedules are exactly those of the published rule of its kind.
+// One offer as a unit: its states, and that its schedules are exactly those of the rule of its kind.
 #![tactic(auto)]
 
 mod buyer;

@@ -33,7 +33,7 @@ pub fn start(offer: &Offer) -> usize
 }
 
 // Whether it may go from one state into another in a period, and with which outputs. By these arcs and their costs its
-// schedules are exactly those of the published rule of its kind, within the bounds of every unit.
+// schedules are exactly those of the rule of its kind, at its cost and in its states, within the bounds of every unit.
 #[tactic(auto, using(crate::proofs::Rules::keeps_rule, crate::proofs::Rules::offer_sound))]
 pub fn arc(offer: &Offer, period: usize, from: usize, to: usize) -> Option<Range>
     ensures arc { result ≡ (model_of (offer_links offer.now)).arc period from to }
