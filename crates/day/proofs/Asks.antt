@@ -22,7 +22,7 @@ use Rattle.day.specs.declared.session.Session.TheVariants.{Open}
 use Rattle.day.specs.Said.{fleet_of, opened}
 use Rattle.day.specs.Lasting.{lasts, AddsAt, ShowIs, ShownSo, Lasting}
 use Rattle.day.specs.Holding.{mean, Holds}
-use Rattle.day.specs.Answering.{enters, EntersReply, supplies, SupplyAnswer, ShowAnswer}
+use Rattle.day.specs.Answering.{enters, EntersReply, supplies, SupplyReplied, ShowReplied}
 use Rattle.day.specs.Going.{AsksGoes}
 use Rattle.day.proofs.Lasts.{lasting_more, supply_priced, show_priced}
 
@@ -53,7 +53,7 @@ follows_same m T W cs c d e f = record { fleet_is = f.fleet_is; periods_are = f.
 
 -- supply --
 
-pub supply_known : (day : OpenDay) (u line : ℕ) (q : Result (ℤ × ℤ × ℤ) Decline) (r : Reply) → slice_index_or day.known.supplies u None ≡ Some q → r ≡ supplies u line q → AsksGoes day day (supply u 3920 3920) (SupplyAnswer u line r)
+pub supply_known : (day : OpenDay) (u line : ℕ) (q : Result (ℤ × ℤ × ℤ) Decline) (r : Reply) → slice_index_or day.known.supplies u None ≡ Some q → r ≡ supplies u line q → AsksGoes day day (supply u 3920 3920) (SupplyReplied u line r)
 supply_known day u line q r e is T W os xs cs h =
     let m = fleet_of os xs in
     let l = ledger m T W cs in
@@ -63,7 +63,7 @@ supply_known day u line q r e is T W os xs cs h =
     ((q, k.1, is), (h.0, h.1, follows_same m T W cs c day.docket same h.2, lasting_more m T W cs c day.known.supplies day.known.shows h.3))
 
 pub supply_asked : (day : OpenDay) (known : Known) (u line : ℕ) (q : Result (ℤ × ℤ × ℤ) Decline) (r : Reply) → GoesOn mean day.docket day.docket (supply u 3920 3920) (Supplies u 3920 3920 q) → AddsAt u q day.known.supplies known.supplies → known.shows ≡ day.known.shows → r ≡ supplies u line q →
-    AsksGoes day (record { periods = day.periods; units = day.units; docket = day.docket; known = known }) (supply u 3920 3920) (SupplyAnswer u line r)
+    AsksGoes day (record { periods = day.periods; units = day.units; docket = day.docket; known = known }) (supply u 3920 3920) (SupplyReplied u line r)
 supply_asked day known u line q r g adds same is T W os xs cs h =
     let m = fleet_of os xs in
     let l = ledger m T W cs in
@@ -88,11 +88,11 @@ show_is_priced : (m : Meaning) (T W : ℕ) (l : Ledger) (u : ℕ) (q : Result (L
 show_is_priced m T W l u (Ok es) h e = show_priced m T W l u 48 es es (Ok tt) h.1 refl
 show_is_priced m T W l u (Err d) h e = show_priced m T W l u 48 h.0 h.0 (Err d) h.2 e
 
-show_answer : (m : Meaning) (T W : ℕ) (l : Ledger) (u line : ℕ) (q : Result (List Entry) Decline) (r : Reply) → ShowIs u q m T W l → ShownSo u T line q r → ShowAnswer u line r m T W l
+show_answer : (m : Meaning) (T W : ℕ) (l : Ledger) (u line : ℕ) (q : Result (List Entry) Decline) (r : Reply) → ShowIs u q m T W l → ShownSo u T line q r → ShowReplied u line r m T W l
 show_answer m T W l u line (Ok es) r h s = (Ok tt, es, es, h.0, h.1, s)
 show_answer m T W l u line (Err d) r h s = (Err d, h.0, h.0, h.1, h.2, s)
 
-pub show_known : (day : OpenDay) (u line : ℕ) (q : Result (List Entry) Decline) (r : Reply) → slice_index_or day.known.shows u None ≡ Some q → ShownSo u day.periods line q r → AsksGoes day day (show u 3920 48) (ShowAnswer u line r)
+pub show_known : (day : OpenDay) (u line : ℕ) (q : Result (List Entry) Decline) (r : Reply) → slice_index_or day.known.shows u None ≡ Some q → ShownSo u day.periods line q r → AsksGoes day day (show u 3920 48) (ShowReplied u line r)
 show_known day u line q r e is T W os xs cs h =
     let m = fleet_of os xs in
     let l = ledger m T W cs in
@@ -104,7 +104,7 @@ show_known day u line q r e is T W os xs cs h =
     )
 
 pub show_asked : (day : OpenDay) (known : Known) (u line : ℕ) (q : Result (List Entry) Decline) (r : Reply) → GoesOn mean day.docket day.docket (show u 3920 48) (ShowIs u q) → AddsAt u q day.known.shows known.shows → known.supplies ≡ day.known.supplies → ShownSo u day.periods line q r →
-    AsksGoes day (record { periods = day.periods; units = day.units; docket = day.docket; known = known }) (show u 3920 48) (ShowAnswer u line r)
+    AsksGoes day (record { periods = day.periods; units = day.units; docket = day.docket; known = known }) (show u 3920 48) (ShowReplied u line r)
 show_asked day known u line q r g adds same is T W os xs cs h =
     let m = fleet_of os xs in
     let l = ledger m T W cs in

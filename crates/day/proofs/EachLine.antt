@@ -11,7 +11,7 @@ use Rattle.replies.specs.Texts.{no_text, reply_text}
 use Rattle.day.specs.Cutting.{lines_of}
 use Rattle.day.specs.Said.{Said, nothing, after_line}
 use Rattle.day.specs.Answering.{LineReply}
-use Rattle.day.specs.Settling.{Answered, Settled}
+use Rattle.day.specs.Settling.{TextOfLines, Settled}
 use Rattle.day.specs.EachLine.{LineAnswered, EachAnswered, EachLineLaw}
 use Rattle.day.proofs.Runs.{session_law}
 
@@ -51,7 +51,7 @@ record Each (s : Said) (n : ℕ) (lines : List (List ℕ)) (text : List ℕ) : T
   answers : Answers s n outcomes replies
   text_is : text ≡ flat_map reply_text replies
 
-each : (lines : List (List ℕ)) (s : Said) (n : ℕ) (text : List ℕ) → Answered lines s n text → Each s n lines text
+each : (lines : List (List ℕ)) (s : Said) (n : ℕ) (text : List ℕ) → TextOfLines lines s n text → Each s n lines text
 each [] s n text h = record {
   outcomes = [];
   read = refl;
@@ -73,7 +73,7 @@ each (line ∷ lines) s n text h =
 
 pub each_line_law : EachLineLaw
 each_line_law file text short h =
-    let lines : Answered (lines_of file) nothing 1 text = subst (λ b. cond b (text ≡ no_text (record { cause = FileTooLong; place = 1 }) 1) (Answered (lines_of file) nothing 1 text)) (le-ltb 65536 (length file) short) h in
+    let lines : TextOfLines (lines_of file) nothing 1 text = subst (λ b. cond b (text ≡ no_text (record { cause = FileTooLong; place = 1 }) 1) (TextOfLines (lines_of file) nothing 1 text)) (le-ltb 65536 (length file) short) h in
     let r = each (lines_of file) nothing 1 text lines in
     record {
       outcomes = r.outcomes;

@@ -9,14 +9,14 @@ use Rattle.terms.specs.declared.decline.Cause.TheVariants.{FileTooLong}
 use Rattle.replies.specs.Texts.{no_text}
 use Rattle.day.specs.Cutting.{lines_of}
 use Rattle.day.specs.Said.{nothing}
-use Rattle.day.specs.Settling.{Answered, Settled, WritesText}
+use Rattle.day.specs.Settling.{TextOfLines, Settled, WritesText}
 
 -- the two texts of a file that is too long are one
 too_long : (file other text : List ℕ) → 65536 < length file → 65536 < length other → Settled other text → Settled file text
 too_long file other text l m h =
     let declined = text ≡ no_text (record { cause = FileTooLong; place = 1 }) 1 in
-    let said : declined = subst (λ b. cond b declined (Answered (lines_of other) nothing 1 text)) (lt-ltb 65536 (length other) m) h in
-    subst (λ b. cond b declined (Answered (lines_of file) nothing 1 text)) (sym (lt-ltb 65536 (length file) l)) said
+    let said : declined = subst (λ b. cond b declined (TextOfLines (lines_of other) nothing 1 text)) (lt-ltb 65536 (length other) m) h in
+    subst (λ b. cond b declined (TextOfLines (lines_of file) nothing 1 text)) (sym (lt-ltb 65536 (length file) l)) said
 
 pub enough : (file text : List ℕ) → Settled (take 65537 file) text → Settled file text
 enough file text h =

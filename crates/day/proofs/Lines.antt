@@ -13,7 +13,7 @@ use Rattle.day.specs.Said.{Said, nothing, begun, opened, after_form, after_line}
 use Rattle.day.specs.Holding.{Holds}
 use Rattle.day.specs.Answering.{enters, BegunReply, FormReply}
 use Rattle.day.specs.Going.{BegunGoes, LineGoes}
-use Rattle.day.specs.Settling.{Answered}
+use Rattle.day.specs.Settling.{TextOfLines}
 use Rattle.day.proofs.Cuts.{lines_cut}
 
 pub begun_goes : (day : BegunDay) (form : Form) (after : Session) (answer : Result (Unit {0}) Decline) (line : ℕ) (reply : Reply) → BegunGoes day form after answer → reply ≡ enters line answer → (said : Said) → Holds (Begun day) said → FormReply said form line reply × Holds after (after_form said form)
@@ -28,7 +28,7 @@ begun_goes day form after answer line reply goes e (opened T W os xs cs) h = abs
 pub record Going (file : List ℕ) (session : Session) (rest : List ℕ) (n : ℕ) (text : List ℕ) : Type 0 where
   pub said : Said
   pub held : Holds session said
-  pub so_far : (others : List ℕ) → Answered (lines_of rest) said n others → Answered (lines_of file) nothing 1 (text ++ others)
+  pub so_far : (others : List ℕ) → TextOfLines (lines_of rest) said n others → TextOfLines (lines_of file) nothing 1 (text ++ others)
 
 pub going_more : (file : List ℕ) (session next : Session) (rest line after : List ℕ) (n : ℕ) (text : List ℕ) (reply : Reply) → Going file session rest n text → 0 < length rest → line ≡ take (position_or_len is_newline rest) rest → after ≡ drop (position_or_len is_newline rest + 1) rest → LineGoes session line n next reply → Going file next after (n + 1) (text ++ reply_text reply)
 going_more file session next rest line after n text reply g some is rests goes =
@@ -38,12 +38,12 @@ going_more file session next rest line after n text reply g some is rests goes =
       said = after_line g.said h.0;
       held = h.3;
       so_far = λ others a.
-          subst (λ t. Answered (lines_of file) nothing 1 t) (sym (append_assoc text (reply_text reply) others))
+          subst (λ t. TextOfLines (lines_of file) nothing 1 t) (sym (append_assoc text (reply_text reply) others))
           (g.so_far (reply_text reply ++ others)
-          (subst (λ ls. Answered ls g.said n (reply_text reply ++ others)) (sym cut)
+          (subst (λ ls. TextOfLines ls g.said n (reply_text reply ++ others)) (sym cut)
           (record { reading = h.0; read = h.1; reply = reply; answered = h.2; rest = others; others = a; text_is = refl })));
     }
 
-pub going_done : (file : List ℕ) (session : Session) (rest : List ℕ) (n : ℕ) (text : List ℕ) → Going file session rest n text → length rest ≡ 0 → Answered (lines_of file) nothing 1 text
-going_done file session [] n text g e = subst (λ t. Answered (lines_of file) nothing 1 t) (append-nil text) (g.so_far [] refl)
+pub going_done : (file : List ℕ) (session : Session) (rest : List ℕ) (n : ℕ) (text : List ℕ) → Going file session rest n text → length rest ≡ 0 → TextOfLines (lines_of file) nothing 1 text
+going_done file session [] n text g e = subst (λ t. TextOfLines (lines_of file) nothing 1 t) (append-nil text) (g.so_far [] refl)
 going_done file session (b ∷ bs) n text g e = absurd (omega arith)

@@ -24,8 +24,8 @@ use Rattle.replies.specs.declared.reply.Reply.TheVariants.{Supply as SupplyReply
 use Rattle.replies.specs.Texts.{no_text, reply_text}
 use Rattle.day.specs.Cutting.{lines_of}
 use Rattle.day.specs.Said.{Said, nothing, begun, opened, fleet_of, after_line}
-use Rattle.day.specs.Answering.{Declines, DeclinesIf, enters, EntersReply, supplies, SupplyAnswer, ShownAs, ShowAnswer, JudgedAs, JudgeAnswer, DocketReply, OpeningReply, BegunReply, FirstReply, FormReply, LineReply}
-use Rattle.day.specs.Settling.{Answered, OneTextLaw}
+use Rattle.day.specs.Answering.{Declines, DeclinesIf, enters, EntersReply, supplies, SupplyReplied, ShownAs, ShowReplied, JudgedAs, JudgeReplied, DocketReply, OpeningReply, BegunReply, FirstReply, FormReply, LineReply}
+use Rattle.day.specs.Settling.{TextOfLines, OneTextLaw}
 
 -- declines of the file's own --
 
@@ -65,7 +65,7 @@ outage_same layer (Some n) line q r h k = declined_same layer n 0 line q r h k
 entered_same : (c : Call) (line : ℕ) (q r : Reply) (m : Meaning) (T W : ℕ) (l : Ledger) → EntersReply c line q m T W l → EntersReply c line r m T W l → q ≡ r
 entered_same c line q r m T W l (a, h, e) (b, k, f) = e ∙ ap (enters line) (one_answer.enters m T W l c a b h k) ∙ sym f
 
-supply_same : (u line : ℕ) (q r : Reply) (m : Meaning) (T W : ℕ) (l : Ledger) → SupplyAnswer u line q m T W l → SupplyAnswer u line r m T W l → q ≡ r
+supply_same : (u line : ℕ) (q r : Reply) (m : Meaning) (T W : ℕ) (l : Ledger) → SupplyReplied u line q m T W l → SupplyReplied u line r m T W l → q ≡ r
 supply_same u line q r m T W l (a, h, e) (b, k, f) = e ∙ ap (supplies u line) (one_answer.supplies m T W l u 3920 3920 a b h k) ∙ sym f
 
 err_ok : {P X : Type 0} (d : Decline) (x : X) → ◌≡◌ {A = Result X Decline} (Err d) (Ok x) → P
@@ -81,7 +81,7 @@ shown_ok u T line new x (SupplyReply v b l m) h = absurd h
 shown_ok u T line new x (ShowReply v xs) h = λ i. ShowReply (h.0 i) (record { items = h.1 i })
 shown_ok u T line new x (Verdict p j) h = absurd h
 
-show_same : (u line : ℕ) (q r : Reply) (m : Meaning) (T W : ℕ) (l : Ledger) → ShowAnswer u line q m T W l → ShowAnswer u line r m T W l → q ≡ r
+show_same : (u line : ℕ) (q r : Reply) (m : Meaning) (T W : ℕ) (l : Ledger) → ShowReplied u line q m T W l → ShowReplied u line r m T W l → q ≡ r
 show_same u line q r m T W l (Ok x, old, new, n, h, e) (Ok y, old', new', n', k, f) =
     let es = one_answer.shown m T W l u 3920 old new old' new' x y h k in
     shown_ok u T line new x q e ∙ ap (λ z. ShowReply u (record { items = z })) es ∙ sym (shown_ok u T line new' y r f)
@@ -102,7 +102,7 @@ judged_ok units line new j (Verdict p k) h = λ i. Verdict (record { items = h.1
 same_ok : {X : Type 0} (x y : X) → ◌≡◌ {A = Result X Decline} (Ok x) (Ok y) → x ≡ y
 same_ok x y e = cc
 
-judge_same : (line : ℕ) (q r : Reply) (m : Meaning) (T W : ℕ) (l : Ledger) → JudgeAnswer line q m T W l → JudgeAnswer line r m T W l → q ≡ r
+judge_same : (line : ℕ) (q r : Reply) (m : Meaning) (T W : ℕ) (l : Ledger) → JudgeReplied line q m T W l → JudgeReplied line r m T W l → q ≡ r
 judge_same line q r m T W l (Ok j, old, new, n, h, e) (Ok k, old', new', n', h', e') =
     let judgement = same_ok j k (one_answer.judges m T W l old new old' new' (Ok j) (Ok k) (n ∙ sym n') h h') in
     let pays = one_answer.paid m T W l old new old' new' j k h h' in
@@ -168,14 +168,14 @@ line_same s (Err d) line q r h k = both (No d line) q r h k
 
 -- the text --
 
-answered_same : (lines : List (List ℕ)) (s : Said) (n : ℕ) (t u : List ℕ) → Answered lines s n t → Answered lines s n u → t ≡ u
+answered_same : (lines : List (List ℕ)) (s : Said) (n : ℕ) (t u : List ℕ) → TextOfLines lines s n t → TextOfLines lines s n u → t ≡ u
 answered_same [] s n t u h k = h ∙ sym k
 answered_same (line ∷ lines) s n t u h k =
     let reading = told_law h.reading k.reading (h.read ∙ sym k.read) in
     let reply = line_same s h.reading n h.reply k.reply h.answered (subst (λ z. LineReply s z n k.reply) (sym reading) k.answered) in
-    let rest = answered_same lines (after_line s h.reading) (n + 1) h.rest k.rest h.others (subst (λ z. Answered lines (after_line s z) (n + 1) k.rest) (sym reading) k.others) in
+    let rest = answered_same lines (after_line s h.reading) (n + 1) h.rest k.rest h.others (subst (λ z. TextOfLines lines (after_line s z) (n + 1) k.rest) (sym reading) k.others) in
     h.text_is ∙ (λ i. reply_text (reply i) ++ rest i) ∙ sym k.text_is
 
 pub one_text : OneTextLaw
 one_text file t u h k =
-    chosen_same (nat_lt 65536 (length file)) (λ z. z ≡ no_text (record { cause = FileTooLong; place = 1 }) 1) (λ z. Answered (lines_of file) nothing 1 z) t u (λ a b. a ∙ sym b) (answered_same (lines_of file) nothing 1 t u) h k
+    chosen_same (nat_lt 65536 (length file)) (λ z. z ≡ no_text (record { cause = FileTooLong; place = 1 }) 1) (λ z. TextOfLines (lines_of file) nothing 1 z) t u (λ a b. a ∙ sym b) (answered_same (lines_of file) nothing 1 t u) h k

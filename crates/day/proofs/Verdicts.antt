@@ -15,7 +15,7 @@ use Rattle.replies.specs.declared.reply.Reply.{Reply}
 use Rattle.replies.specs.declared.reply.Reply.TheVariants.{Nothing, No, Verdict}
 use Rattle.replies.specs.declared.reply.Reply.TheVariants.{Supply as SupplyReply, Show as ShowReply}
 use Rattle.day.specs.Said.{nothing, begun, opened, fleet_of}
-use Rattle.day.specs.Answering.{EntersReply, supplies, SupplyAnswer, ShowAnswer, JudgeAnswer, DocketReply, DeclinesIf, OpeningReply, BegunReply, FirstReply}
+use Rattle.day.specs.Answering.{EntersReply, supplies, SupplyReplied, ShowReplied, JudgeReplied, DocketReply, DeclinesIf, OpeningReply, BegunReply, FirstReply}
 use Rattle.day.specs.Verdicts.{VerdictLaw}
 
 abbrev IsVerdict : Reply → Type 0
@@ -33,11 +33,11 @@ module _ {P : Type 0} (pays : ArrayVec ℤ) (j : Judgement) where
   no_entering c line m T W l (Ok x, a, e) = other Nothing e (λ x. x)
   no_entering c line m T W l (Err d, a, e) = other (No d line) e (λ x. x)
 
-  no_supply : (u line : ℕ) (m : Meaning) (T W : ℕ) (l : Ledger) → SupplyAnswer u line (Verdict pays j) m T W l → P
+  no_supply : (u line : ℕ) (m : Meaning) (T W : ℕ) (l : Ledger) → SupplyReplied u line (Verdict pays j) m T W l → P
   no_supply u line m T W l (Ok s, a, e) = other (supplies u line (Ok s)) e (λ x. x)
   no_supply u line m T W l (Err d, a, e) = other (No d line) e (λ x. x)
 
-  no_show : (u line : ℕ) (m : Meaning) (T W : ℕ) (l : Ledger) → ShowAnswer u line (Verdict pays j) m T W l → P
+  no_show : (u line : ℕ) (m : Meaning) (T W : ℕ) (l : Ledger) → ShowReplied u line (Verdict pays j) m T W l → P
   no_show u line m T W l (Ok x, old, new, a, b, e) = absurd e
   no_show u line m T W l (Err d, old, new, a, b, e) = other (No d line) e (λ x. x)
 
@@ -77,7 +77,7 @@ module _ {P : Type 0} (pays : ArrayVec ℤ) (j : Judgement) where
   no_first (Show u) line a = absurd a
   no_first Judge line a = absurd a
 
-judged : (line : ℕ) (pays : ArrayVec ℤ) (j : Judgement) (m : Meaning) (T W : ℕ) (l : Ledger) → JudgeAnswer line (Verdict pays j) m T W l → Bound m T W l j
+judged : (line : ℕ) (pays : ArrayVec ℤ) (j : Judgement) (m : Meaning) (T W : ℕ) (l : Ledger) → JudgeReplied line (Verdict pays j) m T W l → Bound m T W l j
 judged line pays j m T W l (Ok k, old, new, a, h, e) = subst (Bound m T W l) (sym e.0) h.bound
 judged line pays j m T W l (Err d, old, new, a, h, e) = other pays j (No d line) e (λ x. x)
 

@@ -50,8 +50,8 @@ abbrev pub supplies : ℕ → ℕ → Result (ℤ × ℤ × ℤ) Decline → Rep
 supplies u line (Ok s) = SupplyReply u s.0 s.1 s.2
 supplies u line (Err d) = No d line
 
-abbrev pub SupplyAnswer : ℕ → ℕ → Reply → Meaning → ℕ → ℕ → Ledger → Type 0
-SupplyAnswer u line r m T W l = (q : Result (ℤ × ℤ × ℤ) Decline) × Supplies u 3920 3920 q m T W l × (r ≡ supplies u line q)
+abbrev pub SupplyReplied : ℕ → ℕ → Reply → Meaning → ℕ → ℕ → Ledger → Type 0
+SupplyReplied u line r m T W l = (q : Result (ℤ × ℤ × ℤ) Decline) × Supplies u 3920 3920 q m T W l × (r ≡ supplies u line q)
 
 -- the buffer's entries of the day
 abbrev pub ShownAs : ℕ → ℕ → ℕ → List Entry → Result (Unit {0}) Decline → Reply → Type 0
@@ -62,8 +62,8 @@ ShownAs u T line new (Ok x) (SupplyReply v b l m) = ⊥
 ShownAs u T line new (Ok x) (Verdict p j) = ⊥
 ShownAs u T line new (Err d) r = r ≡ No d line
 
-abbrev pub ShowAnswer : ℕ → ℕ → Reply → Meaning → ℕ → ℕ → Ledger → Type 0
-ShowAnswer u line r m T W l = (q : Result (Unit {0}) Decline) × (old : List Entry) × (new : List Entry) × (length old ≡ 48) × Shows u 3920 old new q m T W l × ShownAs u T line new q r
+abbrev pub ShowReplied : ℕ → ℕ → Reply → Meaning → ℕ → ℕ → Ledger → Type 0
+ShowReplied u line r m T W l = (q : Result (Unit {0}) Decline) × (old : List Entry) × (new : List Entry) × (length old ≡ 48) × Shows u 3920 old new q m T W l × ShownAs u T line new q r
 
 -- the buffer's pays of the units, and the judgement
 abbrev pub JudgedAs : ℕ → ℕ → List ℤ → Result Judgement Decline → Reply → Type 0
@@ -75,8 +75,8 @@ JudgedAs units line new (Ok j) (ShowReply v xs) = ⊥
 JudgedAs units line new (Err d) r = r ≡ No d line
 
 -- the whole theorem on the verdict, at the ledger of the calls so far
-abbrev pub JudgeAnswer : ℕ → Reply → Meaning → ℕ → ℕ → Ledger → Type 0
-JudgeAnswer line r m T W l = (q : Result Judgement Decline) × (old : List ℤ) × (new : List ℤ) × (length old ≡ 64) × Judges m T W l old new q × JudgedAs m.units line new q r
+abbrev pub JudgeReplied : ℕ → Reply → Meaning → ℕ → ℕ → Ledger → Type 0
+JudgeReplied line r m T W l = (q : Result Judgement Decline) × (old : List ℤ) × (new : List ℤ) × (length old ≡ 64) × Judges m T W l old new q × JudgedAs m.units line new q r
 
 -- a form while the docket is open, at the ledger of the calls so far
 abbrev pub DocketReply : Form → ℕ → Reply → Meaning → ℕ → ℕ → Ledger → Type 0
@@ -87,9 +87,9 @@ DocketReply (Need d) line r m T W l = EntersReply (need d.items) line r m T W l
 DocketReply (Price d n) line r m T W l = EntersReply (price d n.items) line r m T W l
 DocketReply (Run u x) line r m T W l = EntersReply (run u x.items 3920) line r m T W l
 DocketReply (Mix u w x) line r m T W l = EntersReply (mix u w x.items) line r m T W l
-DocketReply (Supply u) line r m T W l = SupplyAnswer u line r m T W l
-DocketReply (Show u) line r m T W l = ShowAnswer u line r m T W l
-DocketReply Judge line r m T W l = JudgeAnswer line r m T W l
+DocketReply (Supply u) line r m T W l = SupplyReplied u line r m T W l
+DocketReply (Show u) line r m T W l = ShowReplied u line r m T W l
+DocketReply Judge line r m T W l = JudgeReplied line r m T W l
 
 -- a need while no docket is open: why it does not open, or what the fresh docket answers
 abbrev pub OpeningReply : Option Fault → List ℤ → ℕ → Reply → Meaning → ℕ → ℕ → Type 0

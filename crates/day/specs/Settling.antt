@@ -22,14 +22,14 @@ pub record LineOf (line : List ℕ) (s : Said) (n : ℕ) (text : List ℕ) (Rest
   pub text_is : text ≡ reply_text reply ++ rest
 
 -- lines from this number on, after what the file has said, are answered with the text
-abbrev pub Answered : List (List ℕ) → Said → ℕ → List ℕ → Type 0
-Answered [] s n text = text ≡ []
-Answered (line ∷ lines) s n text = LineOf line s n text (λ after rest. Answered lines after (n + 1) rest)
+abbrev pub TextOfLines : List (List ℕ) → Said → ℕ → List ℕ → Type 0
+TextOfLines [] s n text = text ≡ []
+TextOfLines (line ∷ lines) s n text = LineOf line s n text (λ after rest. TextOfLines lines after (n + 1) rest)
 
 -- 1 where the file is over 65,536 bytes, and nothing else is read
 abbrev pub Settled : List ℕ → List ℕ → Type 0
 Settled file text =
-    cond (nat_lt 65536 (length file)) (text ≡ no_text (record { cause = FileTooLong; place = 1 }) 1) (Answered (lines_of file) nothing 1 text)
+    cond (nat_lt 65536 (length file)) (text ≡ no_text (record { cause = FileTooLong; place = 1 }) 1) (TextOfLines (lines_of file) nothing 1 text)
 
 -- a file has one text
 abbrev pub OneTextLaw : Type 0

@@ -4,15 +4,15 @@ ghost use Rattle.day.specs.Lasting.{lasts, AddsAt};
 
 use terms::{Cause, Decline, Entry};
 
-pub(crate) type SupplyAnswer = Result<(i64, i64, i64), Decline>;
+pub(crate) type KnownSupply = Result<(i64, i64, i64), Decline>;
 
-pub(crate) type ShowAnswer = Result<[Entry; 48], Decline>;
+pub(crate) type KnownShow = Result<[Entry; 48], Decline>;
 
 // The first answers of each unit, none before it was asked.
 #[derive(Drop)]
 pub(crate) struct Known {
-    supplies: [Option<SupplyAnswer>; 64],
-    shows: [Option<ShowAnswer>; 64],
+    supplies: [Option<KnownSupply>; 64],
+    shows: [Option<KnownShow>; 64],
     ghost supplies_long: { length supplies ≡ 64 },
     ghost shows_long: { length shows ≡ 64 },
 }
@@ -37,20 +37,20 @@ impl Known {
         Known { supplies, shows }
     }
 
-    pub(crate) fn supply(&self, unit: usize) -> Option<SupplyAnswer>
+    pub(crate) fn supply(&self, unit: usize) -> Option<KnownSupply>
         ensures { result ≡ slice_index_or self.now.supplies unit None }
     {
         if unit < 64 { self.supplies[unit] } else { None }
     }
 
-    pub(crate) fn show(&self, unit: usize) -> Option<ShowAnswer>
+    pub(crate) fn show(&self, unit: usize) -> Option<KnownShow>
         ensures { result ≡ slice_index_or self.now.shows unit None }
     {
         if unit < 64 { self.shows[unit] } else { None }
     }
 
     // Keeps an answer that lasts.
-    pub(crate) fn keep_supply(&mut self, unit: usize, answer: SupplyAnswer)
+    pub(crate) fn keep_supply(&mut self, unit: usize, answer: KnownSupply)
         ensures supplies { AddsAt unit answer self.old.supplies self.new.supplies }
         ensures shows { self.new.shows ≡ self.old.shows }
     {
@@ -59,7 +59,7 @@ impl Known {
         }
     }
 
-    pub(crate) fn keep_show(&mut self, unit: usize, answer: ShowAnswer)
+    pub(crate) fn keep_show(&mut self, unit: usize, answer: KnownShow)
         ensures supplies { self.new.supplies ≡ self.old.supplies }
         ensures shows { AddsAt unit answer self.old.shows self.new.shows }
     {

@@ -4,10 +4,10 @@ ghost use Rattle.settlement.specs.Ledger.{supply, show, judge};
 ghost use Rattle.settlement.specs.Follow.{GoesOn};
 ghost use Rattle.day.specs.Holding.{mean};
 ghost use Rattle.day.specs.Lasting.{ShowIs, ShownSo};
-ghost use Rattle.day.specs.Answering.{enters, supplies, SupplyAnswer, ShowAnswer, JudgeAnswer};
+ghost use Rattle.day.specs.Answering.{enters, supplies, SupplyReplied, ShowReplied, JudgeReplied};
 ghost use Rattle.day.specs.Going.{DocketGoes, AsksGoes};
 
-use crate::known::ShowAnswer;
+use crate::known::KnownShow;
 use crate::session::OpenDay;
 use crate::tables::Tables;
 use arrayvec::ArrayVec;
@@ -44,7 +44,7 @@ fn supplied(unit: usize, line: usize, answer: Result<(i64, i64, i64), Decline>) 
 
 // What is known of the unit, or what the docket answers.
 fn supply(day: &mut OpenDay, unit: usize, line: usize, tables: &mut Tables) -> Reply
-    ensures { AsksGoes day.old day.new (supply unit 3920 3920) (SupplyAnswer unit line result) }
+    ensures { AsksGoes day.old day.new (supply unit 3920 3920) (SupplyReplied unit line result) }
 {
     if let Some(answer) = day.known.supply(unit) {
         return supplied(unit, line, answer);
@@ -65,7 +65,7 @@ fn first_of<T: Copy + Default, const N: usize>(items: &[T], count: usize) -> Arr
 }
 
 // The whole buffer that the docket's show writes.
-fn searched(docket: &Docket<Outages<Book>>, unit: usize, tables: &mut Tables) -> ShowAnswer
+fn searched(docket: &Docket<Outages<Book>>, unit: usize, tables: &mut Tables) -> KnownShow
     ensures { GoesOn mean docket.now docket.now (show unit 3920 48) (ShowIs unit result) }
 {
     let mut schedule = [Entry::default(); 48];
@@ -75,7 +75,7 @@ fn searched(docket: &Docket<Outages<Book>>, unit: usize, tables: &mut Tables) ->
     }
 }
 
-fn shown(unit: usize, line: usize, periods: usize, answer: ShowAnswer) -> Reply
+fn shown(unit: usize, line: usize, periods: usize, answer: KnownShow) -> Reply
     ensures { ShownSo unit periods line answer result }
 {
     match answer {
@@ -88,7 +88,7 @@ fn shown(unit: usize, line: usize, periods: usize, answer: ShowAnswer) -> Reply
 }
 
 fn show(day: &mut OpenDay, unit: usize, line: usize, tables: &mut Tables) -> Reply
-    ensures { AsksGoes day.old day.new (show unit 3920 48) (ShowAnswer unit line result) }
+    ensures { AsksGoes day.old day.new (show unit 3920 48) (ShowReplied unit line result) }
 {
     if let Some(answer) = day.known.show(unit) {
         return shown(unit, line, day.periods, answer);
@@ -99,7 +99,7 @@ fn show(day: &mut OpenDay, unit: usize, line: usize, tables: &mut Tables) -> Rep
 }
 
 fn judge(day: &OpenDay, line: usize) -> Reply
-    ensures { AsksGoes day.now day.now (judge 64) (JudgeAnswer line result) }
+    ensures { AsksGoes day.now day.now (judge 64) (JudgeReplied line result) }
 {
     let mut pays = [0; 64];
     match day.docket.judge(&mut pays) {

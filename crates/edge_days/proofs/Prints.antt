@@ -32,8 +32,8 @@ use Rattle.replies.specs.declared.reply.Reply.TheVariants as reply
 use Rattle.replies.specs.Texts.{reply_text}
 use Rattle.day.specs.Cutting.{lines_of}
 use Rattle.day.specs.Said.{Said, nothing, after_form}
-use Rattle.day.specs.Answering.{EntersReply, SupplyAnswer, ShowAnswer, JudgeAnswer, FormReply}
-use Rattle.day.specs.Settling.{Answered, Settled}
+use Rattle.day.specs.Answering.{EntersReply, SupplyReplied, ShowReplied, JudgeReplied, FormReply}
+use Rattle.day.specs.Settling.{TextOfLines, Settled}
 use Rattle.day.proofs.OneText.{one_text}
 use Rattle.edge_days.specs.Days.{first, second, both, on, off, calls, half_off, day_at}
 use Rattle.edge_days.specs.EdgeDays.{at_place}
@@ -115,7 +115,7 @@ abbrev text_of : (lines : List (List ℕ)) (s : Said) (n : ℕ) → Played lines
 text_of [] s n p = []
 text_of (line ∷ lines) s n (f, r, e, a, p) = reply_text r ++ text_of lines (after_form s f) (n + 1) p
 
-played : (lines : List (List ℕ)) (s : Said) (n : ℕ) (p : Played lines s n) → Answered lines s n (text_of lines s n p)
+played : (lines : List (List ℕ)) (s : Said) (n : ℕ) (p : Played lines s n) → TextOfLines lines s n (text_of lines s n p)
 played [] s n p = refl
 played (line ∷ lines) s n (f, r, e, a, p) = record {
   reading = Ok (Some f);
@@ -219,7 +219,7 @@ never e = cc
 abbrev least_judgement : Judgement
 least_judgement = record { verdict = Least; uplift = pos 2; over = 1; gap = pos 0; weight = 2 }
 
-least : (n : ℕ) → JudgeAnswer n (reply.Verdict (record { items = pos 2 ∷ pos 0 ∷ [] }) least_judgement) both 1 2 (day_at 6)
+least : (n : ℕ) → JudgeReplied n (reply.Verdict (record { items = pos 2 ∷ pos 0 ∷ [] }) least_judgement) both 1 2 (day_at 6)
 least n =
     let s = edge_days.at_six in
     let best = edge_days.least in (
@@ -248,7 +248,7 @@ least n =
 abbrev within_judgement : Judgement
 within_judgement = record { verdict = Within; uplift = pos 4; over = 1; gap = pos 4; weight = 2 }
 
-within : (n : ℕ) → JudgeAnswer n (reply.Verdict (record { items = pos 0 ∷ pos 4 ∷ [] }) within_judgement) both 1 2 (day_at 5)
+within : (n : ℕ) → JudgeReplied n (reply.Verdict (record { items = pos 0 ∷ pos 4 ∷ [] }) within_judgement) both 1 2 (day_at 5)
 within n =
     let s = edge_days.at_five in (
       Ok within_judgement,
@@ -275,7 +275,7 @@ within n =
 
 -- supply and show at 5 cents --
 
-supplied : (cs : List Call) → (ledger both 1 2 cs).prices ≡ record { over = 1; numerators = pos 5 ∷ [] } → held_back both 1 2 (ledger both 1 2 cs) (supply 0 3920 3920) ≡ None → (n : ℕ) → SupplyAnswer 0 n (reply.Supply 0 (pos 0) (pos 0) (pos 10)) both 1 2 (ledger both 1 2 cs)
+supplied : (cs : List Call) → (ledger both 1 2 cs).prices ≡ record { over = 1; numerators = pos 5 ∷ [] } → held_back both 1 2 (ledger both 1 2 cs) (supply 0 3920 3920) ≡ None → (n : ℕ) → SupplyReplied 0 n (reply.Supply 0 (pos 0) (pos 0) (pos 10)) both 1 2 (ledger both 1 2 cs)
 supplied cs e h n = (Ok (pos 0, pos 0, pos 10), (unfaulted cs (supply 0 3920 3920) h fits, subst (λ r. Supply (both.model 0) 1 r (pos 0, pos 0, pos 10)) (sym e) supply_five), refl)
   where
     fits : (f : Fault) → wrong both 1 2 (ledger both 1 2 cs) (supply 0 3920 3920) f → ⊥
@@ -286,7 +286,7 @@ supplied cs e h n = (Ok (pos 0, pos 0, pos 10), (unfaulted cs (supply 0 3920 392
 abbrev blank : Entry
 blank = record { state = 0; output = pos 0 }
 
-shown : (cs : List Call) → (ledger both 1 2 cs).prices ≡ record { over = 1; numerators = pos 5 ∷ [] } → held_back both 1 2 (ledger both 1 2 cs) (show 0 3920 48) ≡ None → (n : ℕ) → ShowAnswer 0 n (reply.Show 0 (record { items = on 1 })) both 1 2 (ledger both 1 2 cs)
+shown : (cs : List Call) → (ledger both 1 2 cs).prices ≡ record { over = 1; numerators = pos 5 ∷ [] } → held_back both 1 2 (ledger both 1 2 cs) (show 0 3920 48) ≡ None → (n : ℕ) → ShowReplied 0 n (reply.Show 0 (record { items = on 1 })) both 1 2 (ledger both 1 2 cs)
 shown cs e h n = (Ok tt, replicate 48 blank, record { state = 0; output = pos 1 } ∷ replicate 47 blank, refl, ((unfaulted cs (show 0 3920 48) h fits, subst (λ r. First (both.model 0) 1 r (on 1)) (sym e) show_five), refl), (refl, refl))
   where
     fits : (f : Fault) → wrong both 1 2 (ledger both 1 2 cs) (show 0 3920 48) f → ⊥
@@ -296,7 +296,7 @@ shown cs e h n = (Ok tt, replicate 48 blank, record { state = 0; output = pos 1 
 
 -- the mixes that miss --
 
-declined : (n : ℕ) → JudgeAnswer n (reply.No (record { cause = MixesMissNeed; place = 0 }) n) both 1 2 short
+declined : (n : ℕ) → JudgeReplied n (reply.No (record { cause = MixesMissNeed; place = 0 }) n) both 1 2 short
 declined n =
     let d : Decline = record { cause = MixesMissNeed; place = 0 } in (
       Err d,

@@ -28,7 +28,7 @@ use Rattle.settlement.proofs.Carries.{no_fault}
 use Rattle.settlement.proofs.Finding.{none_fails}
 use Rattle.settlement.proofs.Never.{never_31}
 use Rattle.edge_days.specs.Days.{first, second, both, on, off, calls, half_off, never_off, day_at, ramp, ramping, lake, filling, nothing_asked}
-use Rattle.edge_days.specs.EdgeDays.{Settled, EdgeDays, at_place}
+use Rattle.edge_days.specs.EdgeDays.{ComesTo, EdgeDays, at_place}
 
 -- best gains, computed --
 
@@ -208,7 +208,7 @@ evidence_five = record {
   mixes_meet = one_period _ refl;
 }
 
-pub at_six : Settled (day_at 6) (pos 2) (pos 0) (pos 2) (pos 0)
+pub at_six : ComesTo (day_at 6) (pos 2) (pos 0) (pos 2) (pos 0)
 unfolding best_from greatest
 at_six = record {
   evidence = evidence_six;
@@ -219,7 +219,7 @@ at_six = record {
   second_pay = refl;
 }
 
-pub at_five : Settled (day_at 5) (pos 4) (pos 4) (pos 0) (pos 4)
+pub at_five : ComesTo (day_at 5) (pos 4) (pos 4) (pos 0) (pos 4)
 unfolding best_from greatest
 at_five = record {
   evidence = evidence_five;

@@ -19,7 +19,7 @@ abbrev pub at_place : ℕ → ℕ → Fault
 at_place number place = record { number = number; place = place }
 
 -- the evidence of the worked day is whole, judge declines nothing, and these are its numbers
-pub record Settled (l : Ledger) (uplift gap first second : ℤ) : Type 0 where
+pub record ComesTo (l : Ledger) (uplift gap first second : ℤ) : Type 0 where
   pub evidence : Evidence both 1 2 l
   pub answered : (f : Fault) → Declined both 1 2 l (judge 2) f → ⊥
   pub uplift_is : uplift_at both 1 l.prices l ≡ uplift
@@ -33,11 +33,11 @@ Judged l v = (old new : List ℤ) (r : Result Judgement Decline) → 2 ≤ lengt
 
 pub record EdgeDays : Type 0 where
   -- at 6 cents every mix gains the best, so LEAST
-  pub at_six : Settled (day_at 6) (pos 2) (pos 0) (pos 2) (pos 0)
+  pub at_six : ComesTo (day_at 6) (pos 2) (pos 0) (pos 2) (pos 0)
   pub least : AllBest both 1 (day_at 6)
   pub says_least : Judged (day_at 6) Least
   -- at 5 cents one does not, so WITHIN
-  pub at_five : Settled (day_at 5) (pos 4) (pos 4) (pos 0) (pos 4)
+  pub at_five : ComesTo (day_at 5) (pos 4) (pos 4) (pos 0) (pos 4)
   pub within : AllBest both 1 (day_at 5) → ⊥
   pub says_within : Judged (day_at 5) Within
   -- unit 1 at 4 lots alone: the mixes bring 28 lots and not 24

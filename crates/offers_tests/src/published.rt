@@ -27,9 +27,9 @@ fn schedule(heap: Global, lots: Lots) -> Result<Vec<Entry>, Fail> {
 }
 
 // The verdict, the uplift and the gap, and the side payments.
-type Settled = (Verdict, i64, i64, [i64; 2]);
+type Outcome = (Verdict, i64, i64, [i64; 2]);
 
-fn settled(heap: Global, book: Book, day: &Day, numerators: &[i32]) -> Result<Settled, Fail> {
+fn settled(heap: Global, book: Book, day: &Day, numerators: &[i32]) -> Result<Outcome, Fail> {
     let mut table = [None; SLOTS];
     let mut pays = [0; 2];
     let opened = Docket::open(book, day.needs.len(), 10);

@@ -1,2 +1,3 @@
 pub mod Lending
 pub mod Goings
+pub mod OneSettlement

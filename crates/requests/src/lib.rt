@@ -8,4 +8,4 @@ mod settling;
 
 pub use desk::Desk;
 pub use request::{Answer, Request};
-pub use settling::{Settled, settle};
+pub use settling::{Closed, settle};

@@ -3,6 +3,7 @@ ghost use Rattle.std.specs.Prelude.{◌≡◌};
 ghost use Rattle.settlement.specs.Calls.{open_fault};
 ghost use Rattle.requests.specs.Requests.{held, left};
 ghost use Rattle.requests.specs.Settling.{SettleAnswer};
+ghost use Rattle.requests.specs.OneSettlement.{OneSettlementLaw};
 
 use crate::desk::Desk;
 use crate::making::make;
@@ -12,7 +13,7 @@ use settlement::{Docket, Judgement, Unopened};
 use terms::Decline;
 
 // The fleet, given back, and what the last judge answered, or why no docket was opened.
-pub struct Settled<F> {
+pub struct Closed<F> {
     pub fleet: F,
     pub judged: Result<Judgement, Decline>,
 }
@@ -25,9 +26,10 @@ pub fn settle<F: Fleet>(
     requests: &[Request],
     desk: Desk,
     answers: &mut [Option<Result<Answer, Decline>>],
-) -> Settled<F>
+) -> Closed<F>
     ensures answer { SettleAnswer (open_fault (F.Fleet.meaning fleet) periods weight) (F.Fleet.meaning fleet) periods weight requests.now (held desk.entry) (left desk.exit) answers.old answers.new result.judged }
     ensures fleet { result.fleet ≡ fleet }
+    ensures one { OneSettlementLaw }
 {
     let Desk {
         gains,
@@ -38,7 +40,7 @@ pub fn settle<F: Fleet>(
     } = desk;
     let mut docket = match Docket::open(fleet, periods, weight) {
         Ok(docket) => docket,
-        Err(Unopened { fleet, decline }) => return Settled {
+        Err(Unopened { fleet, decline }) => return Closed {
             fleet,
             judged: Err(decline),
         },
@@ -58,7 +60,7 @@ pub fn settle<F: Fleet>(
         }
     }
     let judged = docket.judge(pays);
-    Settled {
+    Closed {
         fleet: docket.close(),
         judged,
     }

@@ -4,6 +4,7 @@ pub mod Evidence
 pub mod Reasons
 pub mod Verdicts
 pub mod Standings
+pub mod Stages
 pub mod Sheets
 pub mod Weighing
 pub mod Follow

@@ -1,19 +1,16 @@
 -- What the sheet's own functions do. Assumes nothing.
-use Rattle.std.specs.Prelude.{◌≡◌, ℕ, ◌+◌, List, replicate, ℤ, pos, ◌+ℤ◌, ◌-ℤ◌, ◌*ℤ◌, Some, None, Ok, Err, Result, slice_index_or, slice_set}
+use Rattle.std.specs.Prelude.{◌≡◌, ℕ, ◌+◌, List, replicate, ℤ, pos, ◌+ℤ◌, ◌-ℤ◌, ◌*ℤ◌, Some, None, Ok, Err, Option, Result, slice_index_or, slice_set}
 use Rattle.terms.specs.Declines.{Says}
 use Rattle.terms.specs.declared.decline.Decline.{Decline}
 use Rattle.terms.specs.declared.decline.Layer.TheVariants.{Docket}
-use Rattle.fleet.specs.Rows.{Made, need_fault, price_fault, NeedRowOf, PriceRowOf}
-use Rattle.fleet.specs.declared.rows.NeedRow.{NeedRow}
-use Rattle.fleet.specs.declared.rows.PriceRow.{PriceRow}
 use Rattle.settlement.specs.declared.stages.Stage.{Stage}
 use Rattle.settlement.specs.declared.stages.Stage.TheVariants.{Blank, Needed, Priced}
 use Rattle.settlement.specs.declared.stages.Rows.{Rows}
-use Rattle.settlement.specs.declared.stages.RowCall.{RowCall}
-use Rattle.settlement.specs.declared.stages.RowCall.TheVariants.{Need, Price}
+use Rattle.settlement.specs.declared.stages.Call.{Call}
 use Rattle.settlement.specs.declared.standing.Standing.{Standing}
 use Rattle.settlement.specs.declared.sheet.Sheet.{Sheet}
 use Rattle.terms.specs.declared.entry.Entry.{Entry}
+use Rattle.settlement.specs.Stages.{StageTakes}
 use Rattle.settlement.specs.Evidence.{lots_at}
 
 pub record BlankSheet (s : Sheet) : Type 0 where
@@ -30,29 +27,12 @@ pub record SameSums (old new : Sheet) : Type 0 where
   pub mixes_are : new.mixes ≡ old.mixes
   pub gap_is : new.gap ≡ old.gap
 
--- the stage stays at a decline
-abbrev pub Refused : {X : Type 0} → ℕ → ℕ → Stage → Stage → Result X Decline → Type 0
-Refused number place old new (Ok x) = ⊥
-Refused number place old new (Err d) = Says Docket number place d × (new ≡ old)
+-- the stage takes the call or declines it
+abbrev pub CallEntered : ℕ → Stage → Call → Stage → Result (Unit {0}) Decline → Type 0
+CallEntered T old c new (Ok x) = (given : Option Rows) × StageTakes T old c new (Ok given)
+CallEntered T old c new (Err d) = StageTakes T old c new (Err d)
 
-abbrev pub NeedMade : ℕ → List ℤ → Stage → Result (Unit {0}) Decline → Type 0
-NeedMade T xs new (Ok x) = (row : NeedRow) × (new ≡ Needed row) × NeedRowOf T xs row × (need_fault T xs ≡ None)
-NeedMade T xs new (Err d) = (new ≡ Blank) × Made {X = NeedRow} (need_fault T xs) (NeedRowOf T xs) (Err d)
-
-abbrev pub PriceMade : ℕ → NeedRow → ℕ → List ℤ → Stage → Result (Unit {0}) Decline → Type 0
-PriceMade T needs d ns new (Ok x) = (row : PriceRow) × (new ≡ Priced (record { needs = needs; prices = row })) × PriceRowOf T d ns row × (price_fault T d ns ≡ None)
-PriceMade T needs d ns new (Err e) = (new ≡ Needed needs) × Made {X = PriceRow} (price_fault T d ns) (PriceRowOf T d ns) (Err e)
-
--- need at blank and price at needed enter their row and move the stage; else 21
-abbrev pub RowEntered : ℕ → Stage → RowCall → Stage → Result (Unit {0}) Decline → Type 0
-RowEntered T Blank (Need xs) new r = NeedMade T xs.now new r
-RowEntered T (Needed needs) (Price d ns) new r = PriceMade T needs d ns.now new r
-RowEntered T (Needed needs) (Need xs) new r = Refused 21 0 (Needed needs) new r
-RowEntered T (Priced rows) (Need xs) new r = Refused 21 0 (Priced rows) new r
-RowEntered T Blank (Price d ns) new r = Refused 21 0 Blank new r
-RowEntered T (Priced rows) (Price d ns) new r = Refused 21 0 (Priced rows) new r
-
--- the rows at priced, else 21
+-- a call that asks for the rows is given them at priced, else 21
 abbrev pub RowsAt : Stage → ℕ → Result Rows Decline → Type 0
 RowsAt (Priced rows) place (Ok x) = x ≡ rows
 RowsAt (Priced rows) place (Err d) = ⊥

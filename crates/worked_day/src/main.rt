@@ -5,7 +5,7 @@ mod sample;
 
 use anyhow::anyhow;
 use fleet::SLOTS;
-use requests::{Desk, Settled, settle};
+use requests::{Desk, Closed, settle};
 use settlement::Judgement;
 use terms::Entry;
 
@@ -48,7 +48,7 @@ fn settle_sample() -> anyhow::Result<([i64; 2], Judgement)> {
         pays: &mut pays,
     };
     let mut answers = [None; 7];
-    let Settled { fleet: _, judged } = settle(
+    let Closed { fleet: _, judged } = settle(
         book,
         sample::PERIODS,
         sample::WEIGHT,

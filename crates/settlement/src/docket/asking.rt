@@ -1,17 +1,14 @@
 // The calls that ask and alter nothing: supply, show and judge.
 ghost use Rattle.std.specs.Prelude.{length};
 ghost use Rattle.settlement.specs.Ledger.{supply, show, judge};
-ghost use Rattle.settlement.specs.Laws.{LedgerLaw, CheckLaw};
-ghost use Rattle.settlement.specs.Reasons.{KeptAtDecline, OneFaultLaw, Never31Law};
-ghost use Rattle.settlement.specs.OneAnswers.{OneAnswerLaw};
-ghost use Rattle.settlement.specs.Entering.{DeclinedLaw};
+ghost use Rattle.settlement.specs.Reasons.{KeptAtDecline};
 ghost use Rattle.settlement.specs.Follow.{GoesOn};
-ghost use Rattle.settlement.specs.Calls.{Supplies, Shows, WorkTable, VerdictGiven, OpenLaw};
+ghost use Rattle.settlement.specs.Calls.{Supplies, Shows, WorkTable, VerdictGiven};
 ghost use Rattle.settlement.specs.Verdicts.{Judges};
 
 use crate::docket::Docket;
 use crate::sheet::weighing::verdict_of;
-use crate::stages::Rows;
+use crate::stages::{Call, Rows};
 use crate::verdicts::Judgement;
 use fleet::{FewerLots, Fleet, Gain, MoreLots, first_best};
 use terms::{Cause, Decline, Entry};
@@ -29,7 +26,7 @@ impl<F: Fleet> Docket<F> {
         ensures fewer { WorkTable fewer.old fewer.new result }
         ensures more { WorkTable more.old more.new result }
     {
-        let prices = self.unit_prices(unit)?;
+        let prices = self.unit_prices(Call::Supply { unit })?;
         fleet::supply(&self.fleet, unit, &prices, fewer, more)
     }
 
@@ -45,7 +42,7 @@ impl<F: Fleet> Docket<F> {
         ensures kept { KeptAtDecline out.old out.new result }
         ensures table { WorkTable table.old table.new result }
     {
-        let prices = self.unit_prices(unit)?;
+        let prices = self.unit_prices(Call::Show { unit })?;
         first_best(&self.fleet, unit, &prices, table, out)
     }
 
@@ -69,19 +66,11 @@ impl<F: Fleet> Docket<F> {
 
     // Writes each unit's pay, past the units nothing, and answers uplift, gap and verdict. Declined with 21, 30, 41, 42,
     // 43, 44; 31 cannot come.
-    #[tactic(auto, using(crate::proofs::Opens::open_law, crate::proofs::Fits::declined_law, crate::proofs::OneFault::one_fault, crate::proofs::OneAnswer::one_answer, crate::proofs::Never::never_31, crate::proofs::Ledgers::ledger_law, crate::proofs::Ledgers::check_law))]
     pub fn judge(&self, pays: &mut [i64]) -> Result<Judgement, Decline>
         ensures goes { GoesOn F.Fleet.meaning self.now self.now (judge (length pays.old)) (λ m T W l. Judges m T W l pays.old pays.new result) }
         ensures kept { KeptAtDecline pays.old pays.new result }
-        ensures open { OpenLaw }
-        ensures declined { DeclinedLaw }
-        ensures one { OneFaultLaw }
-        ensures answer { OneAnswerLaw }
-        ensures never { Never31Law }
-        ensures ledger { LedgerLaw }
-        ensures checks { CheckLaw }
     {
-        let rows = self.sheet.rows(0)?;
+        let rows = self.sheet.rows(self.periods, Call::Judge)?;
         let units = self.fleet.units();
         if pays.len() < units {
             return Err(Cause::TooLittleRoom.at(0));

@@ -1,17 +1,21 @@
 // Checks that several calls share.
+ghost use Rattle.settlement.specs.Stages.{place_of, AsksRows};
 ghost use Rattle.settlement.specs.Calls.{UnitPrices, Accounted};
 
 use crate::counted::Counted;
 use crate::docket::Docket;
+use crate::stages::Call;
 use fleet::{Fleet, PriceRow, check_schedule};
 use terms::{Cause, Decline, Entry};
 
 impl<F: Fleet> Docket<F> {
     // The prices, for a call of a unit. Declined with 21, then 24.
-    pub(crate) fn unit_prices(&self, unit: usize) -> Result<PriceRow, Decline>
-        ensures { UnitPrices (F.Fleet.meaning self.now.fleet) self.now.sheet.stage unit result }
+    pub(crate) fn unit_prices(&self, call: Call) -> Result<PriceRow, Decline>
+        requires { AsksRows call }
+        ensures { UnitPrices (F.Fleet.meaning self.now.fleet) self.now.sheet.stage (place_of call.entry) result }
     {
-        let rows = self.sheet.rows(unit)?;
+        let rows = self.sheet.rows(self.periods, call)?;
+        let unit = call.place();
         if unit >= self.fleet.units() {
             return Err(Cause::NoSuchUnit.at(unit));
         }

@@ -1,14 +1,14 @@
-// The calls that enter something: need, price, run and mix. The laws of what is entered stand on need.
+// The calls that enter something: need, price, run and mix.
 ghost use Rattle.std.specs.Prelude.{◌≡◌, length};
 ghost use Rattle.fleet.specs.Gains.{BestGainLaw};
 ghost use Rattle.settlement.specs.Ledger.{need, price, run, mix};
 ghost use Rattle.settlement.specs.Reasons.{KeptAtDecline};
 ghost use Rattle.settlement.specs.Follow.{GoesOn};
 ghost use Rattle.settlement.specs.Calls.{Enters, WorkTable};
-ghost use Rattle.settlement.specs.Entering.{FitsLaw, HeldLaw, EntersLaw, TakenLaw};
+ghost use Rattle.settlement.specs.Laws.{CheckLaw};
 
 use crate::docket::Docket;
-use crate::stages::RowCall;
+use crate::stages::Call;
 use fleet::{Fleet, Gain, best_gain};
 use terms::{Cause, Decline, Entry};
 
@@ -18,12 +18,8 @@ impl<F: Fleet> Docket<F> {
         ensures goes { GoesOn F.Fleet.meaning self.old self.new (need wanted.now) (Enters (need wanted.now) result) }
         ensures fleet { self.new.fleet ≡ self.old.fleet }
         ensures kept { KeptAtDecline self.old self.new result }
-        ensures fits { FitsLaw }
-        ensures held { HeldLaw }
-        ensures enters { EntersLaw }
-        ensures taken { TakenLaw }
     {
-        self.sheet.enter(self.periods, RowCall::Need(wanted))
+        self.sheet.enter(self.periods, Call::Need(wanted))
     }
 
     // The prices: a denominator and a numerator for each period; needed becomes priced. Declined with 21, 22, 23.
@@ -33,11 +29,11 @@ impl<F: Fleet> Docket<F> {
         ensures kept { KeptAtDecline self.old self.new result }
     {
         self.sheet
-            .enter(self.periods, RowCall::Price(over, numerators))
+            .enter(self.periods, Call::Price(over, numerators))
     }
 
     // A unit's schedule in the dispatch. Declined with 21, 24, 25, 26, 27, 30; 31 cannot come.
-    #[tactic(auto, using(fleet::proofs::BestGains::best_gain_law))]
+    #[tactic(auto, using(fleet::proofs::BestGains::best_gain_law, crate::proofs::Ledgers::check_law))]
     pub fn run(
         &mut self,
         unit: usize,
@@ -49,8 +45,9 @@ impl<F: Fleet> Docket<F> {
         ensures kept { KeptAtDecline self.old self.new result }
         ensures table { WorkTable table.old table.new result }
         ensures best { BestGainLaw }
+        ensures checks { CheckLaw }
     {
-        let prices = self.unit_prices(unit)?;
+        let prices = self.unit_prices(Call::Run { unit, schedule })?;
         if self.sheet.standing(unit).is_some() {
             return Err(Cause::RunStands.at(unit));
         }
@@ -66,7 +63,11 @@ impl<F: Fleet> Docket<F> {
         ensures fleet { self.new.fleet ≡ self.old.fleet }
         ensures kept { KeptAtDecline self.old self.new result }
     {
-        let prices = self.unit_prices(unit)?;
+        let prices = self.unit_prices(Call::Mix {
+            unit,
+            weight,
+            schedule,
+        })?;
         let counted = self.account(unit, &prices, schedule)?;
         let standing = self
             .sheet

@@ -1,13 +1,14 @@
-// The stage: rows enter and move it.
+// The stage, which takes each call, and what stands of a unit.
 ghost use Rattle.std.specs.Prelude.{◌≡◌, ◌<◌, None, slice_index_or};
 ghost use Rattle.settlement.specs.Reasons.{KeptAtDecline};
-ghost use Rattle.settlement.specs.Sheets.{BlankSheet, RowEntered, SameSums, RowsAt};
+ghost use Rattle.settlement.specs.Stages.{place_of, AsksRows};
+ghost use Rattle.settlement.specs.Sheets.{BlankSheet, CallEntered, SameSums, RowsAt};
 
 use crate::sheet::Sheet;
-use crate::stages::{RowCall, Rows, Stage};
+use crate::stages::{Call, Rows, Stage};
 use crate::standing::Standing;
-use fleet::{NeedRow, Periods, PriceRow};
-use terms::{Cause, Decline};
+use fleet::Periods;
+use terms::Decline;
 
 impl Sheet {
     // A sheet with nothing on it.
@@ -23,33 +24,24 @@ impl Sheet {
         }
     }
 
-    // Each stage takes only its own calls: need at blank, price at needed. Declined with 21, then as the row is.
-    pub(crate) fn enter(&mut self, periods: Periods, call: RowCall) -> Result<(), Decline>
-        ensures entered { RowEntered periods.count self.old.stage call.entry self.new.stage result }
+    // A call that moves the stage: need and price. The sums stay.
+    pub(crate) fn enter(&mut self, periods: Periods, call: Call) -> Result<(), Decline>
+        ensures entered { CallEntered periods.count self.old.stage call.entry self.new.stage result }
         ensures sums { SameSums self.old self.new }
         ensures kept { KeptAtDecline self.old self.new result }
     {
-        match (self.stage, call) {
-            (Stage::Blank, RowCall::Need(wanted)) => {
-                let needs = NeedRow::new(periods, wanted)?;
-                self.stage = Stage::Needed(needs);
-                Ok(())
-            }
-            (Stage::Needed(needs), RowCall::Price(over, numerators)) => {
-                let prices = PriceRow::new(periods, over, numerators)?;
-                self.stage = Stage::Priced(Rows { needs, prices });
-                Ok(())
-            }
-            _ => Err(Cause::WrongStage.at(0)),
-        }
+        self.stage.take(periods, call)?;
+        Ok(())
     }
 
-    // The rows, for the calls that belong to priced. Declined with 21 at the given place before that.
-    pub(crate) fn rows(&self, place: usize) -> Result<Rows, Decline>
-        ensures { RowsAt self.now.stage place result }
+    // The rows, for a call that asks for them: taken on a copy of the stage, which none of these calls moves.
+    pub(crate) fn rows(&self, periods: Periods, call: Call) -> Result<Rows, Decline>
+        requires { AsksRows call }
+        ensures { RowsAt self.now.stage (place_of call.entry) result }
     {
-        let Stage::Priced(rows) = self.stage else {
-            return Err(Cause::WrongStage.at(place));
+        let mut stage = self.stage;
+        let Some(rows) = stage.take(periods, call)? else {
+            unreachable()
         };
         Ok(rows)
     }

@@ -4,7 +4,7 @@ use Rattle.terms.specs.declared.decline.Cause.TheVariants.{FileTooLong}
 use Rattle.replies.specs.Texts.{no_text, reply_text}
 use Rattle.day.specs.Cutting.{lines_of}
 use Rattle.day.specs.Said.{nothing}
-use Rattle.day.specs.Settling.{Answered}
+use Rattle.day.specs.Settling.{TextOfLines}
 use Rattle.day.proofs.Verdicts.{verdict_law}
 use Rattle.day.proofs.OneText.{one_text}
 use Rattle.day.proofs.LineLaws.{lines_law}
@@ -41,6 +41,6 @@ returns c =
       each = each_line_law;
       one = one_text;
       lines = lines_law;
-      text = subst (λ b. cond b (text ≡ no_text (record { cause = FileTooLong; place = 1 }) 1) (Answered (lines_of file) nothing 1 text)) (sym (le-ltb 65536 (length file) few))
+      text = subst (λ b. cond b (text ≡ no_text (record { cause = FileTooLong; place = 1 }) 1) (TextOfLines (lines_of file) nothing 1 text)) (sym (le-ltb 65536 (length file) few))
           (going_done file c.loop-rest.session c.loop-rest.rest.now c.loop-rest.line text i.0 none);
     }

@@ -2,6 +2,7 @@ use Rattle.std.proofs.Common.{[], ◌∷◌, ◌++◌, Err, sym, refl, ◌∙◌
 use Rattle.std.proofs.lemmas.List.{get_or_default}
 use Rattle.settlement.specs.Follow.{Follows}
 use Rattle.requests.proofs.Goings.{going_start, going_more, going_done, written_set, written_past}
+use Rattle.requests.proofs.OneSettlement.{one_settlement}
 use Rattle.requests.specs.Requests.{Shared}
 use Rattle.requests.specs.Settling.{Written, Settles, SettleAnswer}
 use Rattle.requests.proofs.settling.settle.Goals.{then-at-answers, else-at-answers}
@@ -9,7 +10,7 @@ use Rattle.requests.proofs.settling.settle.Goals as goal
 
 pub loop-at-init : goal.loop-at-init
 loop-at-init g c =
-    let opened = c.in-Ok.ensures in
+    let opened = c.in-Ok.ensures.opened in
     let d = c.in-Ok.docket in
     going_start g.F.Fleet.meaning d.fleet c.args.periods c.args.weight c.args.requests.now _ c.args.answers.now d refl (subst (λ f. Follows g.F.Fleet.meaning (g.F.Fleet.meaning f) c.args.periods c.args.weight [] d) (sym opened.1) opened.2)
 
@@ -30,10 +31,11 @@ returns-in-Err g c =
     let desk = c.args.desk in
     let lent : Shared = record { gains = desk.gains.now; fewer = desk.fewer.now; more = desk.more.now; schedule = desk.schedule.now; pays = desk.pays.now } in
     let old = c.args.answers.now in
-    let why = c.in-Err.ensures in
+    let why = c.in-Err.ensures.opened in
     record {
       answer = subst (λ o. SettleAnswer o m c.args.periods c.args.weight c.args.requests.now lent lent old old (Err c.in-Err.field-0.decline)) (sym why.0.1) (why.0.2, refl, refl);
       fleet = why.1;
+      one = one_settlement;
     }
 
 pub returns : goal.returns
@@ -45,7 +47,7 @@ returns g c =
     let desk = c.args.desk in
     let lent : Shared = record { gains = desk.gains.now; fewer = desk.fewer.now; more = desk.more.now; schedule = desk.schedule.now; pays = desk.pays.now } in
     let old = c.args.answers.now in
-    let opened = c.in-Ok.ensures in
+    let opened = c.in-Ok.ensures.opened in
     let k = c.loop-at.invariant in
     let new = c.loop-at.answers in
     let left : Shared = record { gains = c.loop-at.gains; fewer = c.loop-at.fewer; more = c.loop-at.more; schedule = c.loop-at.schedule; pays = c.judge-judged.new.pays } in
@@ -54,4 +56,5 @@ returns g c =
     record {
       answer = subst (λ o. SettleAnswer o m T W qs lent left old new r) (sym opened.0) (subst (λ f. Settles (g.F.Fleet.meaning f) T W qs lent left old new r) opened.1 done);
       fleet = c.close.ensures ∙ k.fleet_is ∙ opened.1;
+      one = one_settlement;
     }

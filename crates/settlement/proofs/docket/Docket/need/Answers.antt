@@ -1,8 +1,6 @@
 use Rattle.std.proofs.Common.{refl}
 use Rattle.settlement.proofs.Carries.{docket_kept}
 use Rattle.settlement.proofs.RowCalls.{need_goes}
-use Rattle.settlement.proofs.Fits.{fits_law, held_law, enters_law}
-use Rattle.settlement.proofs.Taken.{taken_law}
 use Rattle.settlement.proofs.docket.Docket.need.Goals as goal
 
 pub returns : goal.returns
@@ -13,8 +11,4 @@ returns g c =
       goes = need_goes g.F.Fleet.meaning d _ refl refl refl done.sums c.args.wanted d.sheet.stage c.enter.result refl done.entered done.kept;
       fleet = refl;
       kept = docket_kept d c.enter.new.self c.enter.result _ _ done.kept;
-      fits = fits_law;
-      held = held_law;
-      enters = enters_law;
-      taken = taken_law;
     }

@@ -1,20 +1,12 @@
-use Rattle.std.proofs.Common.{refl}
-use Rattle.fleet.specs.Rows.{need_fault, price_fault, NeedRowOf, PriceRowOf}
-use Rattle.settlement.proofs.SheetFacts.{made_yes}
+use Rattle.std.proofs.Common.{Err}
+use Rattle.settlement.specs.Reasons.{KeptAtDecline}
+use Rattle.settlement.proofs.SheetFacts.{stage_stays, sheet_kept}
+use Rattle.settlement.proofs.UnitCalls.{at_passed}
 use Rattle.settlement.proofs.sheet.Sheet.enter.Goals as goal
 
-pub returns-in_ok-needs-in-Blank-Need-clause-entered : goal.returns-in_ok-needs-in-Blank-Need-clause-entered
-returns-in_ok-needs-in-Blank-Need-clause-entered c =
-    let T = c.args.periods.count in
-    let xs = c.in-Blank-Need.wanted.now in
-    let made = made_yes (need_fault T xs) (NeedRowOf T xs) c.in_ok-needs-in-Blank-Need.needs c.in_ok-needs-in-Blank-Need.ensures.made in
-    rw (c.in-Blank-Need.is-0, c.in-Blank-Need.is-1) (c.in_ok-needs-in-Blank-Need.needs, refl, made.1, made.0)
-
-pub returns-in_ok-prices-in-Needed-Price-clause-entered : goal.returns-in_ok-prices-in-Needed-Price-clause-entered
-returns-in_ok-prices-in-Needed-Price-clause-entered c =
-    let T = c.args.periods.count in
-    let d = c.in-Needed-Price.over in
-    let ns = c.in-Needed-Price.numerators.now in
-    let row = c.in_ok-prices-in-Needed-Price.prices in
-    let made = made_yes (price_fault T d ns) (PriceRowOf T d ns) row c.in_ok-prices-in-Needed-Price.ensures.made in
-    rw (c.in-Needed-Price.is-0, c.in-Needed-Price.is-1) (row, refl, made.1, made.0)
+pub returns-in_err-take-clause-kept : goal.returns-in_err-take-clause-kept
+returns-in_err-take-clause-kept c =
+    let s = c.args.self.now in
+    let e = c.in_err-take.field-0.0 in
+    let stays = stage_stays c.args.periods.count s.stage c.args.call c.take.new.self e c.in_err-take.ensures in
+    at_passed (KeptAtDecline s _) c.from_residual.result e c.from_residual.ensures.1 (sheet_kept {Y = Unit {0}} s c.take.new.self (Err e) _ _ _ _ stays)
