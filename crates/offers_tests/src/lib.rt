@@ -8,8 +8,8 @@ mod days;
 #[cfg(test)]
 mod kinds;
 #[cfg(test)]
-mod numbers;
+mod known_days;
 #[cfg(test)]
-mod published;
+mod numbers;
 #[cfg(test)]
 mod samples;

@@ -1,6 +1,6 @@
-// Two published days with their side payments. There, power is in MW over hours and money in dollars; here a lot is 5 MWh
+// Two days whose side payments are known. There, power is in MW over hours and money in dollars; here a lot is 5 MWh
 // and money is in cents, so 10 MW are 2 lots, a dollar for a MWh is 500 cents for a lot, and all numbers are exact. A
-// unit that is published without a lowest output has 1 lot here: at none it is off, which costs no more.
+// unit without a lowest output has 1 lot here: at none it is off, which costs no more.
 use crate::samples::{book, entry, ramp, steam, step};
 use fleet::SLOTS;
 use offers::Book;
