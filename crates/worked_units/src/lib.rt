@@ -4,6 +4,7 @@
 ghost use Rattle.std.specs.Prelude.{◌≡◌, IfOk};
 ghost use Rattle.fleet_kinds.specs.ArcTables.{table_meaning};
 
+use fleet::Fleet;
 use fleet_kinds::{ArcRow, ArcTable};
 use std::alloc::{AllocError, Global};
 use terms::Entry;
@@ -67,7 +68,7 @@ pub const EIGHT_LOTS: [Entry; 1] = [Entry {
 
 // The two units.
 pub fn fleet(heap: Global) -> Result<ArcTable, AllocError>
-    ensures { IfOk result (λ t. table_meaning t.count t.rows.items ≡ table_meaning 2 ROWS) }
+    ensures { IfOk result (λ table. ⟦<ArcTable as Fleet>⟧.meaning table ≡ table_meaning 2 ROWS) }
 {
     let rows = ROWS.to_vec(heap)?;
     Ok(ArcTable::new(2, rows))
