@@ -4,7 +4,7 @@ use Rattle.std.proofs.lemmas.Bool.{cases_lt, both_ways}
 use Rattle.terms.specs.declared.entry.Entry.{Entry}
 use Rattle.fleet.specs.Units.{UnitModel, SoundUnit}
 use Rattle.fleet.specs.Schedules.{Prices, Goes, AllowedFrom}
-use Rattle.fleet.specs.Scores.{Scale, Fits, Exact, Summed, AddsExactly, Lawful}
+use Rattle.fleet.specs.Scores.{Scale, IsWithin, Exact, Summed, AddsExactly, Lawful}
 use Rattle.fleet.specs.Table.{Best, better_of, ToGo, Through, Via, Added, worth, score_from}
 use Rattle.fleet.proofs.Arcs.{holds_near, arc_to}
 use Rattle.fleet.proofs.RowFacts.{Priced, near_gain}
@@ -18,19 +18,19 @@ pub record Upto {S : Type 0} (s : Scale S) (p : UnitModel) (r : Prices) (T t a i
 
 module _ {S : Type 0} {s : Scale S} (l : Lawful s) (p : UnitModel) (sp : SoundUnit p) (r : Prices) (pr : Priced r) where
   -- no way adds more than its periods' largest amounts
-  entry_fits : (t a : ℕ) (e : Entry) → Goes p t a e → Fits s 1 (worth s p r t a e.state e.output)
+  entry_fits : (t a : ℕ) (e : Entry) → Goes p t a e → IsWithin s 1 (worth s p r t a e.state e.output)
   entry_fits t a e h =
       let q = e.output in
       let near = holds_near (p.arc t a e.state) q (sp.arcs t a e.state) h in
       let gain = near_gain _ q r.over _ (pr.each t) near pr.few (sp.costs t a e.state q) in
       l.fits_of _ _ (record { gain = gain; lots = near })
 
-  pub way_fits : (t a : ℕ) (way : List Entry) → AllowedFrom p t a way → Fits s (length way) (score_from s p r t a way)
+  pub way_fits : (t a : ℕ) (way : List Entry) → AllowedFrom p t a way → IsWithin s (length way) (score_from s p r t a way)
   way_fits t a [] h = l.fits_zero
   way_fits t a (e ∷ es) h =
       let both = l.fits_add 1 (length es) _ _ (entry_fits t a e h.0) (way_fits (t + 1) e.state es h.1) in
       let k : 1 + length es ≡ suc (length es) = omega arith in
-      subst (λ m. Fits s m (score_from s p r t a (e ∷ es))) k both
+      subst (λ m. IsWithin s m (score_from s p r t a (e ∷ es))) k both
 
   way_summed : (t a : ℕ) (way : List Entry) → AllowedFrom p t a way → Summed s (length way) (score_from s p r t a way)
   way_summed t a [] h = record { amounts = []; few = omega arith; each = tt; sum = refl }
@@ -49,10 +49,10 @@ module _ {S : Type 0} {s : Scale S} (l : Lawful s) (p : UnitModel) (sp : SoundUn
       record { amounts = way.amounts; few = omega arith; each = way.each; sum = way.sum ∙ h.score }
 
 module _ {S : Type 0} {s : Scale S} (l : Lawful s) (adds : AddsExactly s) where
-  pub one_exact : (a : S) → Fits s 1 a → Exact s a
+  pub one_exact : (a : S) → IsWithin s 1 a → Exact s a
   one_exact a h = subst (Exact s) (l.right a) (adds (a ∷ []) (omega arith) (h, tt))
 
-  pub sum_exact : (a b : S) → Fits s 1 a → Summed s 47 b → Exact s (s.add a b)
+  pub sum_exact : (a b : S) → IsWithin s 1 a → Summed s 47 b → Exact s (s.add a b)
   sum_exact a b h k = let few = k.few in subst (λ z. Exact s (s.add a z)) k.sum (adds (a ∷ k.amounts) (omega arith) (h, k.each))
 
 module _ {S : Type 0} {s : Scale S} (l : Lawful s) (p : UnitModel) (sp : SoundUnit p) (r : Prices) where

@@ -7,7 +7,7 @@ use Rattle.std.proofs.Math.IntN.{+ℤ_assoc, +ℤ_idl, +ℤ_idr}
 use Rattle.std.proofs.lemmas.Int.{ints}
 use Rattle.terms.specs.Numbers.{Near}
 use Rattle.terms.proofs.Bounds.{near_more, fits_64}
-use Rattle.fleet.specs.Scores.{Scale, EachWithin, Fits, total, AddsExactly, Lawful, gain_limit, lots_limit, turned, gain_scale, lots_scale, lexical}
+use Rattle.fleet.specs.Scores.{Scale, EachWithin, IsWithin, all_added, AddsExactly, Lawful, gain_limit, lots_limit, turned, gain_scale, lots_scale, lexical}
 
 -- what is within some periods' amounts is within those of more
 within_more : (j k : ℕ) (ms zs : List ℤ) → j ≤ k → EachWithin j ms zs → EachWithin k ms zs
@@ -17,15 +17,15 @@ within_more j k (m ∷ ms) [] le h = h
 within_more j k (m ∷ ms) (z ∷ zs) le h = (near_more (j * unsigned_abs m) (k * unsigned_abs m) z (mul-le-mul_right (unsigned_abs m) le) h.0, within_more j k ms zs le h.1)
 
 module _ {S : Type 0} {s : Scale S} (l : Lawful s) where
-  total_fits : (xs : List S) → AllByRecursion (Fits s 1) xs → Fits s (length xs) (total s xs)
-  total_fits [] h = l.fits_zero
-  total_fits (x ∷ xs) h =
+  added_fits : (xs : List S) → AllByRecursion (IsWithin s 1) xs → IsWithin s (length xs) (all_added s xs)
+  added_fits [] h = l.fits_zero
+  added_fits (x ∷ xs) h =
       let e : 1 + length xs ≡ suc (length xs) = omega arith in
-      subst (λ k. Fits s k (s.add x (total s xs))) e (l.fits_add 1 (length xs) x (total s xs) h.0 (total_fits xs h.1))
+      subst (λ k. IsWithin s k (s.add x (all_added s xs))) e (l.fits_add 1 (length xs) x (all_added s xs) h.0 (added_fits xs h.1))
 
   -- 48 amounts that one period may add, of any score, add exactly
   pub adds_exactly : AddsExactly s
-  adds_exactly xs few h = l.exact (total s xs) (within_more (length xs) 48 (s.numbers s.largest) (s.numbers (total s xs)) few (total_fits xs h))
+  adds_exactly xs few h = l.exact (all_added s xs) (within_more (length xs) 48 (s.numbers s.largest) (s.numbers (all_added s xs)) few (added_fits xs h))
 
 none_near : (k : ℕ) → Near (0 * k) (pos 0)
 none_near k = record { low = omega (arith, ints); high = omega (arith, ints) }

@@ -25,28 +25,28 @@ EachWithin k (m ∷ ms) [] = ⊥
 EachWithin k (m ∷ ms) (z ∷ zs) = Near (k * unsigned_abs m) z × EachWithin k ms zs
 
 -- a score is no further from zero than k times the largest amount that one period may add
-abbrev pub Fits : {S : Type 0} → Scale S → ℕ → S → Type 0
-Fits s k a = EachWithin k (s.numbers s.largest) (s.numbers a)
+abbrev pub IsWithin : {S : Type 0} → Scale S → ℕ → S → Type 0
+IsWithin s k a = EachWithin k (s.numbers s.largest) (s.numbers a)
 
 -- signed 64 bits hold each of its numbers
 abbrev pub Exact : {S : Type 0} → Scale S → S → Type 0
 Exact s a = AllByRecursion (FitsSigned w64) (s.numbers a)
 
 -- what amounts come to
-abbrev pub total : {S : Type 0} → Scale S → List S → S
-total s [] = s.zero
-total s (x ∷ xs) = s.add x (total s xs)
+abbrev pub all_added : {S : Type 0} → Scale S → List S → S
+all_added s [] = s.zero
+all_added s (x ∷ xs) = s.add x (all_added s xs)
 
 -- amounts that one period may add, up to 48 of them, add exactly
 abbrev pub AddsExactly : {S : Type 0} → Scale S → Type 0
-AddsExactly {S} s = (xs : List S) → length xs ≤ 48 → AllByRecursion (Fits s 1) xs → Exact s (total s xs)
+AddsExactly {S} s = (xs : List S) → length xs ≤ 48 → AllByRecursion (IsWithin s 1) xs → Exact s (all_added s xs)
 
 -- what at most k such amounts come to
 pub record Summed {S : Type 0} (s : Scale S) (k : ℕ) (x : S) : Type 0 where
   pub amounts : List S
   pub few : length amounts ≤ k
-  pub each : AllByRecursion (Fits s 1) amounts
-  pub sum : total s amounts ≡ x
+  pub each : AllByRecursion (IsWithin s 1) amounts
+  pub sum : all_added s amounts ≡ x
 
 -- how far an entry's gain and lots can be from zero at a checked price row
 abbrev pub gain_limit : ℕ
@@ -73,13 +73,13 @@ pub record Lawful {S : Type 0} (s : Scale S) : Type 0 where
   pub less_left : (c a b : S) → s.at_most b a ≡ false → s.at_most (s.add c b) (s.add c a) ≡ false
   pub less_right : (c a b : S) → s.at_most b a ≡ false → s.at_most (s.add b c) (s.add a c) ≡ false
   -- one period may add the largest amount, and none that is larger; its entry's gain and lots are no more
-  pub fits_largest : Fits s 1 s.largest
-  pub tops : (a : S) → Fits s 1 a → s.at_most a s.largest ≡ true
-  pub fits_of : (g q : ℤ) → Amount g q → Fits s 1 (s.of g q)
+  pub fits_largest : IsWithin s 1 s.largest
+  pub tops : (a : S) → IsWithin s 1 a → s.at_most a s.largest ≡ true
+  pub fits_of : (g q : ℤ) → Amount g q → IsWithin s 1 (s.of g q)
   -- as often as periods add, as often the largest amount
-  pub fits_zero : Fits s 0 s.zero
-  pub fits_add : (m n : ℕ) (a b : S) → Fits s m a → Fits s n b → Fits s (m + n) (s.add a b)
-  pub exact : (a : S) → Fits s 48 a → Exact s a
+  pub fits_zero : IsWithin s 0 s.zero
+  pub fits_add : (m n : ℕ) (a b : S) → IsWithin s m a → IsWithin s n b → IsWithin s (m + n) (s.add a b)
+  pub exact : (a : S) → IsWithin s 48 a → Exact s a
 
 abbrev pub gain_scale : Scale Gain
 gain_scale = record {

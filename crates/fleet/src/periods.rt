@@ -12,7 +12,7 @@ pub struct Periods {
 impl Periods {
     // A day of this many periods, or nothing where there are none or more than 48.
     pub fn new(count: usize) -> Option<Periods>
-        ensures { MatchOption result ((count < 1) ⊎ (48 < count)) (λ p. p.count ≡ count) }
+        ensures { MatchOption result ((count < 1) ⊎ (48 < count)) (λ p. (1 ≤ count) × (count ≤ 48) × (p.count ≡ count)) }
     {
         if !(1..=48).contains(&count) {
             return None;

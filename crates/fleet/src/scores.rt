@@ -28,7 +28,7 @@ pub trait Score: Copy + Ord {
     ghost lawful: { Lawful scale };
 
     // Up to 48 amounts that one period may add, none beyond the largest, come to an exact sum.
-    ghost exact: { AddsExactly scale };
+    ghost adds: { AddsExactly scale };
 
     // The scale's order is that of `<=`.
     ghost ordered: { (a b : Self) → partial_le Self.partial_cmp a b ≡ scale.at_most a b };
@@ -51,7 +51,7 @@ impl Score for Gain {
 
     ghost lawful = { gain_lawful };
 
-    ghost exact = { adds_exactly gain_lawful };
+    ghost adds = { adds_exactly gain_lawful };
 
     ghost ordered = { Prim.search rules };
 
@@ -100,7 +100,7 @@ impl<const FEWER: bool> Score for ByLots<FEWER> {
 
     ghost lawful = { lots_lawful FEWER };
 
-    ghost exact = { adds_exactly (lots_lawful FEWER) };
+    ghost adds = { adds_exactly (lots_lawful FEWER) };
 
     ghost ordered = { Prim.search rules };
 

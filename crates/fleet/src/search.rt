@@ -3,7 +3,7 @@ ghost use Rattle.std.specs.Prelude.{◌≡◌, ◌+◌, ◌<◌, ◌≤◌, leng
 ghost use Rattle.terms.specs.Numbers.{Near};
 ghost use Rattle.fleet.specs.Units.{SoundArc};
 ghost use Rattle.fleet.specs.Rows.{prices_of, periods_of};
-ghost use Rattle.fleet.specs.Scores.{Fits, Summed};
+ghost use Rattle.fleet.specs.Scores.{IsWithin, Summed};
 ghost use Rattle.fleet.specs.UnitDays.{model_of, of_unit, of_day};
 ghost use Rattle.fleet.specs.Answers.{Room, Free, Searched};
 ghost use Rattle.fleet.specs.Table.{Best, better_of, worth, Added, ToGo, Via, BestSlots, BestTable, Step, FirstWay};
@@ -42,7 +42,7 @@ impl<'a, F: Fleet> UnitDay<'a, F> {
     fn score<S: Score>(&self, period: usize, from: usize, to: usize, output: i32) -> S
         requires { Near 500 output }
         ensures is { result ≡ worth S.Score.scale (model_of F.Fleet.meaning self.now) (prices_of self.now.row.now) period from to output }
-        ensures fits { Fits S.Score.scale 1 result }
+        ensures fits { IsWithin S.Score.scale 1 result }
     {
         let cost = self.fleet.cost(self.unit, period, from, to, output);
         S::of(

@@ -87,6 +87,10 @@ out_is os u t e = let h = Any-from_list_any (covers u t) os e in (h.0, h.1, h.2,
 pub when_out_law : WhenOutLaw
 when_out_law = record {
   units = λ os m. refl;
+  states = λ os m u. refl;
+  start = λ os m u. refl;
+  ends = λ os m u a. refl;
+  entry = λ os m u t a e h. step_cost (out os u t) ((m.model u).arc t a e.state) e.output ((m.model u).cost t a e.state e.output) h;
   goes = λ os m u t a e. (
     λ h. let k = step_kept (out os u t) ((m.model u).arc t a e.state) e.output h in (k.0, λ o. k.1 (is_out os u t o)),
     λ w. kept_step (out os u t) ((m.model u).arc t a e.state) e.output w.0 (λ d. w.1 (out_is os u t d)),

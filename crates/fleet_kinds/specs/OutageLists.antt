@@ -49,11 +49,16 @@ output_in es t = (slice_index_or es t (record { state = 0; output = pos 0 })).ou
 abbrev pub ZeroWhenOut : List Outage → ℕ → List Entry → Type 0
 ZeroWhenOut os u es = (t : ℕ) → Any (Covers u t) os → output_in es t ≡ pos 0
 
--- under outages the units are those of the fleet below; a unit goes on by an entry where it does below and the output is
--- 0 if the unit is out; so its schedules are those below whose output is 0 whenever it is out, at the same cost
+-- under outages the units, their states, where they start and may end are those of the fleet below; a unit goes on by an
+-- entry where it does below and the output is 0 if the unit is out, and the entry costs the same; so its schedules are
+-- those below whose output is 0 whenever it is out, at the same cost
 pub record WhenOutLaw : Type 0 where
   pub units : (os : List Outage) (m : Meaning) → (out_meaning os m).units ≡ m.units
+  pub states : (os : List Outage) (m : Meaning) (u : ℕ) → ((out_meaning os m).model u).states ≡ (m.model u).states
+  pub start : (os : List Outage) (m : Meaning) (u : ℕ) → ((out_meaning os m).model u).start ≡ (m.model u).start
+  pub ends : (os : List Outage) (m : Meaning) (u a : ℕ) → ((out_meaning os m).model u).ends a ≡ (m.model u).ends a
   pub goes : (os : List Outage) (m : Meaning) (u t a : ℕ) (e : Entry) → Goes ((out_meaning os m).model u) t a e ↔ (Goes (m.model u) t a e × (Any (Covers u t) os → e.output ≡ pos 0))
+  pub entry : (os : List Outage) (m : Meaning) (u t a : ℕ) (e : Entry) → Goes ((out_meaning os m).model u) t a e → ((out_meaning os m).model u).cost t a e.state e.output ≡ (m.model u).cost t a e.state e.output
   pub allowed : (os : List Outage) (m : Meaning) (u : ℕ) (es : List Entry) → Allowed ((out_meaning os m).model u) es ↔ (Allowed (m.model u) es × ZeroWhenOut os u es)
   pub cost : (os : List Outage) (m : Meaning) (u : ℕ) (es : List Entry) → Allowed ((out_meaning os m).model u) es → cost_of ((out_meaning os m).model u) es ≡ cost_of (m.model u) es
 

@@ -7,7 +7,7 @@ use crate::rows::{ArcKey, ArcRow};
 use fleet::{Fleet, Range};
 
 // A number of units, more than 64 counting as 64, and rows. Each unit has 80 states, starts in 0 and may end in every one.
-// A question is answered from the first row that counts for it.
+// A question is answered from the row that counts for it: the first in the list of those that are heeded for it.
 #[derive(Drop)]
 pub struct ArcTable {
     count: usize,

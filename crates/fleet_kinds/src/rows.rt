@@ -72,7 +72,7 @@ impl ArcRow {
         self.does_exist(units) && self.has_range() && self.has_bounds()
     }
 
-    // Whether the row counts for the arc, where there are so many units.
+    // Whether the row is heeded for the arc, where there are so many units.
     pub(crate) fn is_for(&self, units: usize, key: ArcKey) -> bool
         ensures { result ≡ is_for units key.unit key.period key.from key.to self.now }
     {

@@ -13,6 +13,8 @@ use Rattle.units.specs.Links.{model_of}
 use Rattle.units.specs.BuyerUnits.{takes, taking, buyer_links}
 use Rattle.units.specs.BuyerRules.{BuyerObeys, BuyerIn, buyer_cost, BuyerRule}
 use Rattle.units.proofs.Fills.{fill_small}
+use Rattle.units.specs.Agree.{Agrees}
+use Rattle.units.proofs.Alike.{of_open_kind}
 use Rattle.units.proofs.Follow.{Story, Told, told_cost, Tracking, follows, reworded}
 use Rattle.units.proofs.SoundLinks.{SoundLinks}
 
@@ -48,10 +50,13 @@ same_cost ss (q ∷ qs) =
     ap (λ z. taking ss q +ℤ z) (same_cost ss qs)
     ∙ sym (sum_to_first (length qs) (λ t. taking ss (slice_index_or (q ∷ qs) t (pos 0))))
 
-pub buyer_stands : (ss : List Step) → BuyerRule ss
-buyer_stands ss =
+buyer_agrees : (ss : List Step) → Agrees (model_of (buyer_links ss)) (BuyerObeys ss) BuyerIn (buyer_cost ss)
+buyer_agrees ss =
     reworded (model_of (buyer_links ss)) (Told (story ss) tt) (BuyerObeys ss) BuyerIn BuyerIn (told_cost (story ss) tt) (buyer_cost ss) (to_all ss) (from_all ss) (λ qs t a l x. x) (same_cost ss)
     (follows (buyer_links ss) (story ss) go (λ h a. a ≡ 0) (tracking ss) tt refl)
+
+pub buyer_stands : (ss : List Step) → BuyerRule ss
+buyer_stands ss = of_open_kind (buyer_links ss) (BuyerObeys ss) BuyerIn (buyer_cost ss) (λ a. refl) (buyer_agrees ss)
 
 -- bounds --
 

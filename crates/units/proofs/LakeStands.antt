@@ -10,9 +10,11 @@ use Rattle.fleet.proofs.Arcs.{among_low, among_high, among_from}
 use Rattle.reader.specs.declared.numbers.LakeNumbers.{LakeNumbers}
 use Rattle.units.specs.Links.{model_of}
 use Rattle.units.specs.LakeUnits.{drawn, flow, may_flow, distance, lake_links}
-use Rattle.units.specs.LakeRules.{rise_of, Flows, moved, level_before, LakeFrom, LakeObeys, LakeIn, lake_cost, LakeRule}
+use Rattle.units.specs.LakeRules.{rise_of, Flows, moved, level_before, LakeFrom, LakeObeys, LakeIn, lake_cost, LakeRule, LakeSoFar}
 use Rattle.units.proofs.Draws.{one_to_one, draws_something}
 use Rattle.units.proofs.Fairs.{FairLake}
+use Rattle.units.specs.Agree.{Agrees, open_ended}
+use Rattle.units.proofs.Alike.{ends_all, of_kind}
 use Rattle.units.proofs.Follow.{Story, Told, told_cost, past, Tracking, Moves, Moved, follows, reworded}
 use Rattle.units.proofs.SoundLinks.{SoundLinks}
 
@@ -237,14 +239,22 @@ level_few n f = let w = f.was in omega (arith, ints)
 some_level : (a : ℕ) → pos 0 ≤ℤ pos a
 some_level a = omega (arith, ints)
 
+lake_agrees : (n : LakeNumbers) → FairLake n → Agrees (model_of (lake_links n)) (LakeObeys n) (LakeIn n) (lake_cost n)
+lake_agrees n f =
+    let l = pos n.was in
+    reworded (model_of (lake_links n)) (Told (story n) l) (LakeObeys n) (λ qs t a. At n (past (story n) l qs t) a) (LakeIn n) (told_cost (story n) l) (lake_cost n)
+    (λ qs o. to_whole n l qs (some_level n.was) (level_few n f) o) (from_whole n l) (λ qs t a i x. sym x.is ∙ past_level n l qs t i) (same_wear n l)
+    (follows (lake_links n) (story n) go (At n) (tracking n) l (record { is = refl; within = f.was }))
+
+-- a lake that may end at every level is open-ended
+lake_so_far : (n : LakeNumbers) → FairLake n → Agrees (open_ended (model_of (lake_links n))) (LakeSoFar n) (LakeIn n) (lake_cost n)
+lake_so_far n f =
+    let low = record n { end = 0 } in
+    subst (λ p. Agrees p (LakeObeys low) (LakeIn low) (lake_cost low)) (ends_all (lake_links low) (λ a. le-leb 0 a (omega arith)))
+    (lake_agrees low (record { full = f.full; fall = f.fall; rise = f.rise; wear = f.wear; was = f.was; end = omega arith }))
+
 pub lake_stands : (n : LakeNumbers) → FairLake n → LakeRule n
-lake_stands n f =
-    let l = pos n.was in (
-      reworded (model_of (lake_links n)) (Told (story n) l) (LakeObeys n) (λ qs t a. At n (past (story n) l qs t) a) (LakeIn n) (told_cost (story n) l) (lake_cost n)
-          (λ qs o. to_whole n l qs (some_level n.was) (level_few n f) o) (from_whole n l) (λ qs t a i x. sym x.is ∙ past_level n l qs t i) (same_wear n l)
-          (follows (lake_links n) (story n) go (At n) (tracking n) l (record { is = refl; within = f.was })),
-      one_to_one,
-    )
+lake_stands n f = (of_kind (lake_links n) (LakeObeys n) (LakeSoFar n) (LakeIn n) (lake_cost n) (lake_agrees n f) (lake_so_far n f), one_to_one)
 
 -- bounds --
 

@@ -1,3 +1,4 @@
+mod Alike
 mod BuyerStands
 mod Draws
 pub mod Fairs

@@ -19,6 +19,8 @@ use Rattle.units.specs.SteamRules.{runs}
 use Rattle.units.specs.RampRules.{RampedBy, Ramped, RampObeys, StateOf, RampIn, ramp_period, ramp_cost, RampRule}
 use Rattle.units.proofs.Fairs.{FairRun, FairRamp}
 use Rattle.units.proofs.Fills.{fill_small}
+use Rattle.units.specs.Agree.{Agrees}
+use Rattle.units.proofs.Alike.{of_open_kind}
 use Rattle.units.proofs.Follow.{Story, Told, told_cost, past, Tracking, Moves, Moved, follows, reworded}
 use Rattle.units.proofs.SoundLinks.{SoundLinks}
 
@@ -185,11 +187,14 @@ state_as : (k : RampNumbers) (p : ℤ) (a : ℕ) → p ≡ pos (output_in k.run 
 state_as k p zero e = e
 state_as k p (suc j) e = let o : output_in k.run (suc j) ≡ k.run.lo + j = grind (arith, nat_tests) in e ∙ ap pos o
 
-pub ramp_stands : (k : RampNumbers) → FairRamp k → RampRule k
-ramp_stands k f =
+ramp_agrees : (k : RampNumbers) → FairRamp k → Agrees (model_of (ramp_links k)) (RampObeys k) (RampIn k) (ramp_cost k)
+ramp_agrees k f =
     let p = pos k.was in
     reworded (model_of (ramp_links k)) (Told (story k) p) (RampObeys k) (λ qs t a. At k (past (story k) p qs t) a) (RampIn k) (told_cost (story k) p) (ramp_cost k) (to_all k p) (from_all k p) (λ qs t a l x. state_as k _ a (sym (past_output k p qs t l) ∙ x.is)) (same_cost k p)
     (follows (ramp_links k) (story k) (go k) (At k) (tracking k f) p (starts k f))
+
+pub ramp_stands : (k : RampNumbers) → FairRamp k → RampRule k
+ramp_stands k f = of_open_kind (ramp_links k) (RampObeys k) (RampIn k) (ramp_cost k) (λ a. refl) (ramp_agrees k f)
 
 -- bounds --
 

@@ -14,6 +14,8 @@ use Rattle.units.specs.SteamUnits.{is_on, goes_to, may, steam_linked, steam_outp
 use Rattle.units.specs.SteamRules.{runs, before_day, Period, period_cost, SteamObeys, StateAfter, SteamIn, steam_cost, SteamRule}
 use Rattle.units.proofs.Fairs.{FairSteam}
 use Rattle.units.proofs.Fills.{fill_small}
+use Rattle.units.specs.Agree.{Agrees}
+use Rattle.units.proofs.Alike.{of_open_kind}
 use Rattle.units.proofs.Follow.{Told, told_cost, past, Tracking, Moves, Moved, follows, reworded}
 use Rattle.units.proofs.SoundLinks.{SoundLinks}
 use Rattle.units.proofs.History.{push, story, to_each, from_each, same_total, past_history}
@@ -130,11 +132,14 @@ tracking n f = record {
   ended = λ a h x e. refl;
 }
 
-pub steam_stands : (n : SteamNumbers) → FairSteam n → SteamRule n
-steam_stands n f =
+steam_agrees : (n : SteamNumbers) → FairSteam n → Agrees (model_of (steam_links n)) (SteamObeys n) (SteamIn n) (steam_cost n)
+steam_agrees n f =
     let h = before_day n.was in
     reworded (model_of (steam_links n)) (Told (story n) h) (SteamObeys n) (λ qs t a. StateAfter n.rest (past (story n) h qs t) a) (SteamIn n) (told_cost (story n) h) (steam_cost n) (from_each n h) (to_each n h) (λ qs t a l. subst (λ w. StateAfter n.rest w a) (past_history n h qs t l)) (λ qs. sym (same_total n h qs))
     (follows (steam_links n) (story n) (go n) (StateAfter n.rest) (tracking n f) h (state_first n f))
+
+pub steam_stands : (n : SteamNumbers) → FairSteam n → SteamRule n
+steam_stands n f = of_open_kind (steam_links n) (SteamObeys n) (SteamIn n) (steam_cost n) (λ a. refl) (steam_agrees n f)
 
 -- bounds --
 

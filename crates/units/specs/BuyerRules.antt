@@ -5,7 +5,7 @@ use Rattle.reader.specs.declared.steps.Step.{Step}
 use Rattle.reader.specs.Steps.{lots_in}
 use Rattle.units.specs.Links.{model_of}
 use Rattle.units.specs.BuyerUnits.{taking, buyer_links}
-use Rattle.units.specs.Agree.{Agrees}
+use Rattle.units.specs.Agree.{OfKind}
 
 -- each period it takes from none to all of its lots
 abbrev pub BuyerObeys : List Step → List ℤ → Type 0
@@ -20,4 +20,4 @@ abbrev pub BuyerIn : List ℤ → ℕ → ℕ → Type 0
 BuyerIn qs t a = a ≡ 0
 
 abbrev pub BuyerRule : List Step → Type 0
-BuyerRule ss = Agrees (model_of (buyer_links ss)) (BuyerObeys ss) BuyerIn (buyer_cost ss)
+BuyerRule ss = OfKind (model_of (buyer_links ss)) 1 (BuyerObeys ss) (BuyerObeys ss) BuyerIn (buyer_cost ss)

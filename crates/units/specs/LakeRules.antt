@@ -1,10 +1,10 @@
 -- The rule of lakes, on outputs alone. Assumes nothing.
-use Rattle.std.specs.Prelude.{◌≡◌, ℕ, suc, ◌*◌, ◌/◌, ◌<◌, ◌≤◌, ◌⊎◌, List, length, ℤ, pos, negsuc, ◌+ℤ◌, neg_ℤ, ◌≤ℤ◌, slice_index_or, unsigned_abs}
+use Rattle.std.specs.Prelude.{◌≡◌, ℕ, suc, ◌+◌, ◌*◌, ◌/◌, ◌<◌, ◌≤◌, ◌⊎◌, List, length, ℤ, pos, negsuc, ◌+ℤ◌, neg_ℤ, ◌≤ℤ◌, slice_index_or, unsigned_abs}
 use Rattle.terms.specs.Sums.{sum_to}
 use Rattle.reader.specs.declared.numbers.LakeNumbers.{LakeNumbers}
 use Rattle.units.specs.Links.{model_of}
 use Rattle.units.specs.LakeUnits.{drawn, lake_links}
-use Rattle.units.specs.Agree.{Agrees}
+use Rattle.units.specs.Agree.{OfKind}
 
 -- the rise that draws d lots; a draw tells its rise
 abbrev pub rise_of : ℕ → ℕ
@@ -47,6 +47,10 @@ pub record LakeFrom (n : LakeNumbers) (l : ℤ) (qs : List ℤ) : Type 0 where
 abbrev pub LakeObeys : LakeNumbers → List ℤ → Type 0
 LakeObeys n qs = LakeFrom n (pos n.was) qs
 
+-- so far: as if the day might end at any level
+abbrev pub LakeSoFar : LakeNumbers → List ℤ → Type 0
+LakeSoFar n qs = LakeObeys (record n { end = 0 }) qs
+
 -- each lot of level moved costs the wear
 abbrev pub lake_cost : LakeNumbers → List ℤ → ℤ
 lake_cost n qs = sum_to (length qs) (λ t. pos (n.wear * unsigned_abs (moved (slice_index_or qs t (pos 0)))))
@@ -56,4 +60,4 @@ abbrev pub LakeIn : LakeNumbers → List ℤ → ℕ → ℕ → Type 0
 LakeIn n qs t a = pos a ≡ level_before (pos n.was) qs t
 
 abbrev pub LakeRule : LakeNumbers → Type 0
-LakeRule n = Agrees (model_of (lake_links n)) (LakeObeys n) (LakeIn n) (lake_cost n) × OneToOne
+LakeRule n = OfKind (model_of (lake_links n)) (n.full + 1) (LakeObeys n) (LakeSoFar n) (LakeIn n) (lake_cost n) × OneToOne

@@ -6,7 +6,7 @@ use Rattle.units.specs.Fill.{fill}
 use Rattle.units.specs.Links.{model_of}
 use Rattle.units.specs.RampUnits.{ramp_links}
 use Rattle.units.specs.SteamRules.{runs}
-use Rattle.units.specs.Agree.{Agrees}
+use Rattle.units.specs.Agree.{OfKind}
 
 -- 1 where it is on, 0 where it is off
 abbrev pub commitment : ℤ → ℕ
@@ -47,4 +47,4 @@ abbrev pub RampIn : RampNumbers → List ℤ → ℕ → ℕ → Type 0
 RampIn n qs t a = StateOf n (previous n qs t) a
 
 abbrev pub RampRule : RampNumbers → Type 0
-RampRule n = Agrees (model_of (ramp_links n)) (RampObeys n) (RampIn n) (ramp_cost n)
+RampRule n = OfKind (model_of (ramp_links n)) (n.run.hi - n.run.lo + 2) (RampObeys n) (RampObeys n) (RampIn n) (ramp_cost n)

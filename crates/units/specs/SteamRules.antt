@@ -7,7 +7,7 @@ use Rattle.reader.specs.declared.numbers.SteamNumbers.{SteamNumbers}
 use Rattle.units.specs.Fill.{fill}
 use Rattle.units.specs.SteamUnits.{was_on, was_for, steam_links}
 use Rattle.units.specs.Links.{model_of}
-use Rattle.units.specs.Agree.{Agrees}
+use Rattle.units.specs.Agree.{OfKind}
 
 -- on means an output above 0
 abbrev pub runs : ℤ → Bool
@@ -82,4 +82,4 @@ abbrev pub SteamIn : SteamNumbers → List ℤ → ℕ → ℕ → Type 0
 SteamIn n qs t a = StateAfter n.rest (history (before_day n.was) qs t) a
 
 abbrev pub SteamRule : SteamNumbers → Type 0
-SteamRule n = Agrees (model_of (steam_links n)) (SteamObeys n) (SteamIn n) (steam_cost n)
+SteamRule n = OfKind (model_of (steam_links n)) (n.rest.up + n.rest.cold) (SteamObeys n) (SteamObeys n) (SteamIn n) (steam_cost n)

@@ -5,7 +5,7 @@ mod sample;
 
 use anyhow::anyhow;
 use fleet::SLOTS;
-use requests::{Desk, Closed, settle};
+use requests::{Closed, Desk, settle};
 use settlement::Judgement;
 use terms::Entry;
 

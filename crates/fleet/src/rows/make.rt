@@ -76,7 +76,7 @@ impl PriceRow {
 
     // The common denominator of the prices.
     pub fn over(&self) -> u32
-        ensures { result ≡ self.now.over }
+        ensures { result ≡ (prices_of self.now).over }
     {
         self.over
     }

@@ -23,7 +23,7 @@ returns-then-not-contains g c =
     going_bad _ _ _ _ _ _ _ _ c.loop-step-test.true (λ h. both_ways _ told (subst (λ (o : Option Range). holds o e.output ≡ true) (sym c.in-Some.ensures) h)) c.loop-step.invariant _ (says ScheduleNotAllowed c.loop-step.period _ c.at-then-not-contains.ensures)
 
 -- the entry goes on, what it costs, and what bounds there are
-record Fits (g : Rattle.fleet.proofs.schedules.check_schedule.Given.Over) (c : goal.After-from-cost g) : Type 0 where
+record IsWithin (g : Rattle.fleet.proofs.schedules.check_schedule.Given.Over) (c : goal.After-from-cost g) : Type 0 where
   goes : Goes ((g.F.Fleet.meaning c.args.fleet.now).model c.args.unit) c.loop-step.period c.loop-step.state (get_or c.args.schedule.now c.loop-step.step-index blank)
   within : c.loop-step.period < 48
   near : Near 500 (get_or c.args.schedule.now c.loop-step.step-index blank).output
@@ -31,7 +31,7 @@ record Fits (g : Rattle.fleet.proofs.schedules.check_schedule.Given.Over) (c : g
   narrow : SFits w32 c.cost-paid.result
   output : SFits w32 (get_or c.args.schedule.now c.loop-step.step-index blank).output
 
-fits_here : (g : Rattle.fleet.proofs.schedules.check_schedule.Given.Over) (c : goal.After-from-cost g) → Fits g c
+fits_here : (g : Rattle.fleet.proofs.schedules.check_schedule.Given.Over) (c : goal.After-from-cost g) → IsWithin g c
 fits_here g c =
     let e = get_or c.args.schedule.now c.loop-step.step-index blank in
     let p = (g.F.Fleet.meaning c.args.fleet.now).model c.args.unit in

@@ -16,4 +16,4 @@ returns-2 g c =
     rw c.better-best.ensures (tried_all g.met.S.Score.lawful _ c.args.range _ _ _ (omega (arith, ints)) (omega (arith, ints)) all)
 
 pub plus-requires : goal.plus-requires
-plus-requires g c = sum_exact g.met.S.Score.lawful g.met.S.Score.exact c.score-score.result c.args.rest c.score-score.ensures.fits c.requires.summed
+plus-requires g c = sum_exact g.met.S.Score.lawful g.met.S.Score.adds c.score-score.result c.args.rest c.score-score.ensures.fits c.requires.summed

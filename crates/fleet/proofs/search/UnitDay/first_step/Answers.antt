@@ -39,7 +39,7 @@ plus-requires g c =
     let sp = (g.met.F.Fleet.sound c.args.self.now.fleet.now).each c.args.self.now.unit in
     let all = c.requires.next.long in
     let next = slot_best g.S.Score.scale _ _ _ _ c.loop-to.to c.args.next.now _ (Some c.in-Some.rest) c.requires.next (omega arith) c.index-next-to.is c.in-Some.is in
-    sum_exact g.met.S.Score.lawful g.met.S.Score.exact c.score-score.result c.in-Some.rest c.score-score.ensures.fits (togo_summed g.met.S.Score.lawful _ sp _ (row_priced c.args.self.now.row.now) _ _ _ _ c.args.self.now.row.now.numerators.short (omega arith) next.0)
+    sum_exact g.met.S.Score.lawful g.met.S.Score.adds c.score-score.result c.in-Some.rest c.score-score.ensures.fits (togo_summed g.met.S.Score.lawful _ sp _ (row_priced c.args.self.now.row.now) _ _ _ _ c.args.self.now.row.now.numerators.short (omega arith) next.0)
 
 pub loop-output-preserved : goal.loop-output-preserved
 loop-output-preserved g c =

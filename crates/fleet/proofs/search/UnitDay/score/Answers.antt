@@ -21,7 +21,7 @@ gain_of-requires g c =
     }
 
 pub of-requires : goal.of-requires
-of-requires g c = one_exact g.met.S.Score.lawful g.met.S.Score.exact _ (g.met.S.Score.lawful.fits_of _ _ (record { gain = near_64 gain_limit c.gain_of.result (lit< tt) c.gain_of.ensures.bounded; lots = near_32 500 c.args.output (lit< tt) c.requires }))
+of-requires g c = one_exact g.met.S.Score.lawful g.met.S.Score.adds _ (g.met.S.Score.lawful.fits_of _ _ (record { gain = near_64 gain_limit c.gain_of.result (lit< tt) c.gain_of.ensures.bounded; lots = near_32 500 c.args.output (lit< tt) c.requires }))
 
 pub returns : goal.returns
 returns g c =

@@ -36,7 +36,7 @@ returns-clause-opened g c =
     let T = c.args.periods in
     let W = c.args.weight in
     let p = c.in-Some.periods in
-    let count : p.count ≡ T = c.in-Some.ensures in
+    let count : p.count ≡ T = c.in-Some.ensures.2 in
     let opens : Opens m T W = record { units = λ e. c.if-units-eq0.false (c.units.ensures ∙ e); periods = (omega (arith, count, p.some), omega (arith, count, p.few)); weight = (search rules, search rules) } in (
       (open_law.none m T W).1 opens,
       refl,
