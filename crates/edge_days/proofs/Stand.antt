@@ -12,7 +12,7 @@ use Rattle.fleet.proofs.Arcs.{among_low}
 use Rattle.fleet.proofs.BestGains.{best_gain_law}
 use Rattle.fleet.proofs.Totals.{best_unique}
 use Rattle.reader.specs.declared.offer.Offer.TheVariants.{Steam, Ramp, Lake}
-use Rattle.units.specs.Agree.{Shows}
+use Rattle.units.specs.Agree.{ScheduleOf}
 use Rattle.units.specs.SteamUnits.{steam_links}
 use Rattle.units.specs.SteamRules.{runs}
 use Rattle.units.specs.RampRules.{RampObeys}
@@ -79,7 +79,7 @@ few q a b =
 between : (es : List Entry) → Schedule (both.model 0) 1 es → (pos 0 ≤ℤ lots_of es) × (lots_of es ≤ℤ pos 10)
 between [] s = let l = s.long in absurd (omega arith)
 between (e ∷ []) s =
-    let p = (keeps_rule (Steam first)).obeys (e ∷ []) s.allowed 0 (omega arith) in
+    let p = (keeps_rule (Steam first)).schedules.obeys (e ∷ []) s.allowed 0 (omega arith) in
     let f = few e.output p.on p.off in
     let l = f.0 in
     let h = f.1 in
@@ -142,8 +142,8 @@ ramp_25 (suc t) l = absurd (omega arith)
 ramp_26 : RampObeys ramp.numbers (pos 26 ∷ []) → ⊥
 ramp_26 o = let r = (o 0 (omega arith)).rises in absurd (omega (arith, ints))
 
-not_26 : Shows (ramping.model 0) (pos 26 ∷ []) → ⊥
-not_26 s = ramp_26 (subst (RampObeys ramp.numbers) s.outputs ((keeps_rule (Ramp ramp)).obeys s.entries s.allowed))
+not_26 : ScheduleOf (ramping.model 0) (pos 26 ∷ []) → ⊥
+not_26 s = ramp_26 (subst (RampObeys ramp.numbers) s.outputs ((keeps_rule (Ramp ramp)).schedules.obeys s.entries s.allowed))
 
 rises_few : (q : ℤ) → Flows lake.numbers q → moved q ≤ℤ pos 2
 rises_few q (inl f) = let e = ap moved f.out in omega (arith, ints)
@@ -153,7 +153,7 @@ no_schedule : NoSchedule (filling.model 0) 2
 no_schedule [] s = let l = s.long in absurd (omega arith)
 no_schedule (e ∷ []) s = let l = s.long in absurd (omega arith)
 no_schedule (e ∷ f ∷ []) s =
-    let o = (keeps_rule (Lake lake)).0.obeys (e ∷ f ∷ []) s.allowed in
+    let o = (keeps_rule (Lake lake)).0.schedules.obeys (e ∷ f ∷ []) s.allowed in
     let x = rises_few e.output (o.flows 0 (omega arith)) in
     let y = rises_few f.output (o.flows 1 (omega arith)) in
     let z = o.ends in
@@ -269,7 +269,7 @@ edge_days = record {
   show_at_five = show_five;
   draw_ten = refl;
   draw_most = refl;
-  to_25 = (keeps_rule (Ramp ramp)).found (pos 25 ∷ []) (omega arith) ramp_25;
+  to_25 = (keeps_rule (Ramp ramp)).schedules.found (pos 25 ∷ []) (omega arith) ramp_25;
   not_to_26 = not_26;
   too_empty = too_empty;
 }

@@ -3,7 +3,7 @@ use Rattle.std.specs.Prelude.{List, ◌≤◌, length, Result, ◌≡◌, [], �
 use Rattle.fleet.specs.Gains.{Supply, First}
 use Rattle.fleet.specs.Rows.{Fault}
 use Rattle.fleet.specs.Uplifts.{pay_of}
-use Rattle.units.specs.Agree.{Shows}
+use Rattle.units.specs.Agree.{ScheduleOf}
 use Rattle.units.specs.LakeUnits.{drawn}
 use Rattle.settlement.specs.Ledger.{Ledger, judge, supply, ledger}
 use Rattle.settlement.specs.Evidence.{Evidence, AllBest, run_of, uplift_at, gap_at}
@@ -48,7 +48,7 @@ pub record EdgeDays : Type 0 where
   pub draw_ten : drawn 10 ≡ 13
   pub draw_most : drawn 79 ≡ 103
   -- from 20 lots to 25, and not to 26
-  pub to_25 : Shows (ramping.model 0) (pos 25 ∷ [])
-  pub not_to_26 : Shows (ramping.model 0) (pos 26 ∷ []) → ⊥
+  pub to_25 : ScheduleOf (ramping.model 0) (pos 25 ∷ [])
+  pub not_to_26 : ScheduleOf (ramping.model 0) (pos 26 ∷ []) → ⊥
   -- two rises of 2 do not reach 5
   pub too_empty : Declined filling 2 1 nothing_asked (supply 0 3920 3920) (at_place 32 0)
