@@ -1,5 +1,5 @@
 -- Each line of a file, by what the forms above it say. Assumes nothing.
-use Rattle.std.proofs.Common.{◌≡◌, ◌≤◌, ℕ, ◌+◌, cond, List, [], ◌∷◌, ◌++◌, length, map, fold, Option, Result, sym, refl, ap, ◌∙◌, subst, add-zero, arith}
+use Rattle.std.proofs.Common.{◌≡◌, ℕ, ◌+◌, cond, List, [], ◌∷◌, ◌++◌, length, map, fold, Option, Result, sym, refl, ap, ◌∙◌, subst, add-zero, arith}
 use Rattle.std.specs.Prelude.{flat_map}
 use Rattle.std.proofs.lemmas.Bool.{le-ltb}
 use Rattle.terms.specs.declared.decline.Decline.{Decline}
@@ -11,8 +11,8 @@ use Rattle.replies.specs.Texts.{no_text, reply_text}
 use Rattle.day.specs.Cutting.{lines_of}
 use Rattle.day.specs.Said.{Said, nothing, after_line}
 use Rattle.day.specs.Answering.{LineReply}
-use Rattle.day.specs.Settling.{TextOfLines, Settled}
-use Rattle.day.specs.EachLine.{LineAnswered, EachAnswered, EachLineLaw}
+use Rattle.day.specs.Settling.{TextOfLines}
+use Rattle.day.specs.EachLine.{EachLineLaw}
 use Rattle.day.proofs.Runs.{session_law}
 
 heads : {X : Type 0} (x y : X) (xs ys : List X) → x ∷ xs ≡ y ∷ ys → x ≡ y

@@ -1,8 +1,8 @@
 -- A file is its lines, and has no others. Assumes nothing.
-use Rattle.std.proofs.Common.{◌≡◌, ℕ, Bool, true, false, cond, List, [], ◌∷◌, ◌++◌, sym, refl, ap, ◌∙◌, subst, inl, inr}
+use Rattle.std.proofs.Common.{◌≡◌, ℕ, List, [], ◌∷◌, ◌++◌, sym, refl, ap, ◌∙◌, subst, inl, inr}
 use Rattle.std.specs.Prelude.{◌≢◌, ◌==◌}
 use Rattle.std.proofs.lemmas.Bool.{cases_Bool, cond-true, cond-false, eqb-true, eqb-false}
-use Rattle.day.specs.Cutting.{is_newline, onto_first, lines_of, OneLine, LinesAre, LinesLaw}
+use Rattle.day.specs.Cutting.{onto_first, lines_of, OneLine, LinesAre, LinesLaw}
 
 none_some : {P : Type 0} (b : ℕ) (l : List ℕ) → b ∷ l ≡ [] → P
 none_some b l e = cc
