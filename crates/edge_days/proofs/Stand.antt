@@ -79,7 +79,7 @@ few q a b =
 between : (es : List Entry) → Schedule (both.model 0) 1 es → (pos 0 ≤ℤ lots_of es) × (lots_of es ≤ℤ pos 10)
 between [] s = let l = s.long in absurd (omega arith)
 between (e ∷ []) s =
-    let p = (keeps_rule (Steam first)).schedules.obeys (e ∷ []) s.allowed 0 (omega arith) in
+    let p = (keeps_rule (Steam first)).0.schedules.obeys (e ∷ []) s.allowed 0 (omega arith) in
     let f = few e.output p.on p.off in
     let l = f.0 in
     let h = f.1 in
@@ -143,7 +143,7 @@ ramp_26 : RampObeys ramp.numbers (pos 26 ∷ []) → ⊥
 ramp_26 o = let r = (o 0 (omega arith)).rises in absurd (omega (arith, ints))
 
 not_26 : ScheduleOf (ramping.model 0) (pos 26 ∷ []) → ⊥
-not_26 s = ramp_26 (subst (RampObeys ramp.numbers) s.outputs ((keeps_rule (Ramp ramp)).schedules.obeys s.entries s.allowed))
+not_26 s = ramp_26 (subst (RampObeys ramp.numbers) s.outputs ((keeps_rule (Ramp ramp)).0.schedules.obeys s.entries s.allowed))
 
 rises_few : (q : ℤ) → Flows lake.numbers q → moved q ≤ℤ pos 2
 rises_few q (inl f) = let e = ap moved f.out in omega (arith, ints)
@@ -269,7 +269,7 @@ edge_days = record {
   show_at_five = show_five;
   draw_ten = refl;
   draw_most = refl;
-  to_25 = (keeps_rule (Ramp ramp)).schedules.found (pos 25 ∷ []) (omega arith) ramp_25;
+  to_25 = (keeps_rule (Ramp ramp)).0.schedules.found (pos 25 ∷ []) (omega arith) ramp_25;
   not_to_26 = not_26;
   too_empty = too_empty;
 }

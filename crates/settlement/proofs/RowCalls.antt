@@ -10,7 +10,7 @@ use Rattle.settlement.specs.Ledger.{Ledger, Call, need, price, is_blank, is_need
 use Rattle.settlement.specs.declared.stages.Call.{Call as StageCall}
 use Rattle.settlement.specs.declared.stages.Call.TheVariants.{Need, Price}
 use Rattle.settlement.specs.Reasons.{KeptAtDecline}
-use Rattle.settlement.specs.Stages.{place_of, Refused}
+use Rattle.settlement.specs.Stages.{call_place, Refused}
 use Rattle.settlement.specs.Sheets.{SameSums, CallEntered}
 use Rattle.settlement.specs.Follow.{StageFollows, SheetFollows, GoesOn}
 use Rattle.settlement.specs.Calls.{Enters}
@@ -22,8 +22,8 @@ made_no : {X : Type 0} (o : Option Fault) (Is : X → Type 0) (d : Decline) → 
 made_no None Is d h = absurd h
 made_no (Some f) Is d h = record { fault = f; is = refl; says = h }
 
-stage_21 : (ok : Bool) (after : Option Fault) (old : Stage) (c : StageCall) (new : Stage) (e : Decline) → ok ≡ false → Refused old c new (Err e) → Held (check ok 21 (place_of c) after) e
-stage_21 ok after old c new e fails r = check_no ok 21 (place_of c) after e fails r.0
+stage_21 : (ok : Bool) (after : Option Fault) (old : Stage) (c : StageCall) (new : Stage) (e : Decline) → ok ≡ false → Refused old c new (Err e) → Held (check ok 21 (call_place c) after) e
+stage_21 ok after old c new e fails r = check_no ok 21 (call_place c) after e fails r.0
 
 module _ {F : Type 0} (mean : F → Meaning) (d d' : Docket F) (same_fleet : d'.fleet ≡ d.fleet) (same_periods : d'.periods.count ≡ d.periods.count) (same_weight : d'.weight ≡ d.weight) (same : SameSums d.sheet d'.sheet) where
   abbrev m₀ : Meaning

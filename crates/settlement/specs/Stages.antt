@@ -13,14 +13,14 @@ use Rattle.settlement.specs.declared.stages.Call.{Call}
 use Rattle.settlement.specs.declared.stages.Call.TheVariants.{Need, Price, Run, Mix, Supply, Show, Judge}
 
 -- the unit of a unit's call, else 0
-abbrev pub place_of : Call → ℕ
-place_of (Need xs) = 0
-place_of (Price d ns) = 0
-place_of (Run u es) = u
-place_of (Mix u w es) = u
-place_of (Supply u) = u
-place_of (Show u) = u
-place_of Judge = 0
+abbrev pub call_place : Call → ℕ
+call_place (Need xs) = 0
+call_place (Price d ns) = 0
+call_place (Run u es) = u
+call_place (Mix u w es) = u
+call_place (Supply u) = u
+call_place (Show u) = u
+call_place Judge = 0
 
 -- need and price enter a row, the other calls ask for the rows
 abbrev pub AsksRows : Call → Type 0
@@ -49,7 +49,7 @@ Given rows new (Err d) = ⊥
 -- 21 at the call's place, and the stage stays
 abbrev pub Refused : Stage → Call → Stage → Result (Option Rows) Decline → Type 0
 Refused old c new (Ok x) = ⊥
-Refused old c new (Err d) = Says Docket 21 (place_of c) d × (new ≡ old)
+Refused old c new (Err d) = Says Docket 21 (call_place c) d × (new ≡ old)
 
 -- by stage and call: blank takes need, needed takes price, priced takes the others
 abbrev pub StageTakes : ℕ → Stage → Call → Stage → Result (Option Rows) Decline → Type 0

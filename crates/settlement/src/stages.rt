@@ -1,6 +1,6 @@
 // The stages of a docket, and the calls that each takes.
 ghost use Rattle.std.specs.Prelude.{◌≡◌};
-ghost use Rattle.settlement.specs.Stages.{place_of, StageTakes};
+ghost use Rattle.settlement.specs.Stages.{call_place, StageTakes};
 
 use fleet::{NeedRow, Periods, PriceRow};
 use terms::{Cause, Decline, Entry};
@@ -46,7 +46,7 @@ pub enum Call<'a> {
 impl<'a> Call<'a> {
     // Where a call is declined that its stage does not take.
     pub(crate) fn place(self) -> usize
-        ensures { result ≡ place_of self.entry }
+        ensures { result ≡ call_place self.entry }
     {
         match self {
             Call::Run { unit, .. }

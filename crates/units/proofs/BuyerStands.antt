@@ -14,7 +14,7 @@ use Rattle.units.specs.BuyerUnits.{takes, taking, buyer_links}
 use Rattle.units.specs.BuyerRules.{BuyerObeys, BuyerIn, buyer_cost, BuyerRule}
 use Rattle.units.proofs.Fills.{fill_small}
 use Rattle.units.specs.Agree.{Agrees}
-use Rattle.units.proofs.Alike.{of_open_kind}
+use Rattle.units.proofs.KindFacts.{of_open_kind}
 use Rattle.units.proofs.Follow.{Story, Told, told_cost, Tracking, follows, reworded}
 use Rattle.units.proofs.SoundLinks.{SoundLinks}
 

@@ -14,7 +14,7 @@ use Rattle.units.specs.LakeRules.{rise_of, Flows, moved, level_before, LakeFrom,
 use Rattle.units.proofs.Draws.{one_to_one, draws_something}
 use Rattle.units.proofs.Fairs.{FairLake}
 use Rattle.units.specs.Agree.{Agrees, open_ended}
-use Rattle.units.proofs.Alike.{ends_all, of_kind}
+use Rattle.units.proofs.KindFacts.{ends_all, of_kind}
 use Rattle.units.proofs.Follow.{Story, Told, told_cost, past, Tracking, Moves, Moved, follows, reworded}
 use Rattle.units.proofs.SoundLinks.{SoundLinks}
 
@@ -254,7 +254,11 @@ lake_so_far n f =
     (lake_agrees low (record { full = f.full; fall = f.fall; rise = f.rise; wear = f.wear; was = f.was; end = omega arith }))
 
 pub lake_stands : (n : LakeNumbers) → FairLake n → LakeRule n
-lake_stands n f = (of_kind (lake_links n) (LakeObeys n) (LakeSoFar n) (LakeIn n) (lake_cost n) (lake_agrees n f) (lake_so_far n f), one_to_one)
+lake_stands n f = (
+  of_kind (lake_links n) (LakeObeys n) (LakeSoFar n) (LakeIn n) (lake_cost n) (lake_agrees n f) (lake_so_far n f),
+  λ l. record { number = refl; arcs = λ t a b. refl; costs = λ t a b x. refl; ends = λ a. refl },
+  one_to_one,
+)
 
 -- bounds --
 

@@ -1,10 +1,10 @@
-mod Alike
 mod BuyerStands
 mod Draws
 pub mod Fairs
 mod Fills
 pub mod Follow
 mod History
+mod KindFacts
 pub mod LakeStands
 mod RampStands
 pub mod Rules

@@ -20,7 +20,7 @@ use Rattle.units.specs.RampRules.{RampedBy, Ramped, RampObeys, StateOf, RampIn, 
 use Rattle.units.proofs.Fairs.{FairRun, FairRamp}
 use Rattle.units.proofs.Fills.{fill_small}
 use Rattle.units.specs.Agree.{Agrees}
-use Rattle.units.proofs.Alike.{of_open_kind}
+use Rattle.units.proofs.KindFacts.{of_open_kind}
 use Rattle.units.proofs.Follow.{Story, Told, told_cost, past, Tracking, Moves, Moved, follows, reworded}
 use Rattle.units.proofs.SoundLinks.{SoundLinks}
 
@@ -194,7 +194,7 @@ ramp_agrees k f =
     (follows (ramp_links k) (story k) (go k) (At k) (tracking k f) p (starts k f))
 
 pub ramp_stands : (k : RampNumbers) → FairRamp k → RampRule k
-ramp_stands k f = of_open_kind (ramp_links k) (RampObeys k) (RampIn k) (ramp_cost k) (λ a. refl) (ramp_agrees k f)
+ramp_stands k f = (of_open_kind (ramp_links k) (RampObeys k) (RampIn k) (ramp_cost k) (λ a. refl) (ramp_agrees k f), λ a. record { number = refl; arcs = λ t a b. refl; costs = λ t a b x. refl; ends = λ b. refl })
 
 -- bounds --
 

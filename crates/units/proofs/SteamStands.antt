@@ -15,7 +15,7 @@ use Rattle.units.specs.SteamRules.{runs, before_day, Period, period_cost, SteamO
 use Rattle.units.proofs.Fairs.{FairSteam}
 use Rattle.units.proofs.Fills.{fill_small}
 use Rattle.units.specs.Agree.{Agrees}
-use Rattle.units.proofs.Alike.{of_open_kind}
+use Rattle.units.proofs.KindFacts.{of_open_kind}
 use Rattle.units.proofs.Follow.{Told, told_cost, past, Tracking, Moves, Moved, follows, reworded}
 use Rattle.units.proofs.SoundLinks.{SoundLinks}
 use Rattle.units.proofs.History.{push, story, to_each, from_each, same_total, past_history}
@@ -139,7 +139,7 @@ steam_agrees n f =
     (follows (steam_links n) (story n) (go n) (StateAfter n.rest) (tracking n f) h (state_first n f))
 
 pub steam_stands : (n : SteamNumbers) → FairSteam n → SteamRule n
-steam_stands n f = of_open_kind (steam_links n) (SteamObeys n) (SteamIn n) (steam_cost n) (λ a. refl) (steam_agrees n f)
+steam_stands n f = (of_open_kind (steam_links n) (SteamObeys n) (SteamIn n) (steam_cost n) (λ a. refl) (steam_agrees n f), λ w. record { number = refl; arcs = λ t a b. refl; costs = λ t a b x. refl; ends = λ a. refl })
 
 -- bounds --
 

@@ -4,6 +4,7 @@ use Rattle.std.proofs.lemmas.Bool.Decides.{nat_tests}
 use Rattle.std.proofs.lemmas.Bool.{cases_lt, cases_Bool, cond-true, cond-false, le-leb, lt-leb, lt-ltb, le-ltb, leb-true, leb-false, and_parts, and_from, not-true, not_from_false, true≢false}
 use Rattle.reader.specs.declared.numbers.Rest.{Rest}
 use Rattle.reader.specs.declared.numbers.Was.{Was}
+use Rattle.reader.specs.declared.numbers.Was.TheVariants.{On, Off}
 use Rattle.reader.specs.declared.numbers.SteamNumbers.{SteamNumbers}
 use Rattle.units.specs.SteamUnits.{was_on, was_for, after_periods, goes_to, starting}
 use Rattle.units.specs.SteamRules.{before_day, all_off, start_cost, RunsFor, run_state, StateAfter}
@@ -92,15 +93,16 @@ pub state_more : (r : SteamNumbers) (f : FairSteam r) (h : ℕ → Bool) (a : �
 state_more r f h a s x = subst (λ z. StateAfter r.rest (push s h) (goes_to r.rest z s)) (sym x.is) (state_next r f h x.on s x.periods x.run)
 
 -- the run that stands before the day
+run_at : (b : Bool) (m : ℕ) → 1 ≤ m → RunsFor (λ k. cond (nat_le (suc k) m) b (not b)) b m
+run_at b m i = record {
+  some = i;
+  same = λ k l. cond-true (nat_le (suc k) m) b (not b) (le-leb (suc k) m (omega arith));
+  other = cond-false (nat_le (suc m) m) b (not b) (lt-leb (suc m) m (omega arith));
+}
+
 run_before : (w : Was) → 1 ≤ was_for w → RunsFor (before_day w) (was_on w) (was_for w)
-run_before w i =
-    let b = was_on w in
-    let m = was_for w in
-    record {
-      some = i;
-      same = λ k l. cond-true (nat_le (suc k) m) b (not b) (le-leb (suc k) m (omega arith));
-      other = cond-false (nat_le (suc m) m) b (not b) (lt-leb (suc m) m (omega arith));
-    }
+run_before (On m) i = run_at true m i
+run_before (Off m) i = run_at false m i
 
 same_state : (r : Rest) (b : Bool) (m : ℕ) → after_periods r b m ≡ run_state r b m
 same_state r true m = refl

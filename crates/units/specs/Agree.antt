@@ -39,8 +39,16 @@ open_ended p = record p { ends = λ a. nat_lt a p.states }
 -- the unit has so many states; its schedules are those of the rule, and what it may do so far, whatever comes after, is
 -- what obeys the rule so far; every period is like the first
 pub record OfKind (p : UnitModel) (number : ℕ) (Obeys SoFar : List ℤ → Type 0) (InState : List ℤ → ℕ → ℕ → Type 0) (price : List ℤ → ℤ) : Type 0 where
-  pub states : p.states ≡ number
+  pub number_is : p.states ≡ number
   pub schedules : Agrees p Obeys InState price
   pub so_far : Agrees (open_ended p) SoFar InState price
-  pub arcs : (t a b : ℕ) → t < 48 → p.arc t a b ≡ p.arc 0 a b
-  pub costs : (t a b : ℕ) (q : ℤ) → t < 48 → p.cost t a b q ≡ p.cost 0 a b q
+  pub same_arcs : (t a b : ℕ) → t < 48 → p.arc t a b ≡ p.arc 0 a b
+  pub same_costs : (t a b : ℕ) (q : ℤ) → t < 48 → p.cost t a b q ≡ p.cost 0 a b q
+
+-- two units alike but for the state in which the day begins: so what was before the day says that state alone, and what
+-- the rule says of each state as a beginning it says of every state
+pub record SameStates (p q : UnitModel) : Type 0 where
+  pub number : q.states ≡ p.states
+  pub arcs : (t a b : ℕ) → q.arc t a b ≡ p.arc t a b
+  pub costs : (t a b : ℕ) (x : ℤ) → q.cost t a b x ≡ p.cost t a b x
+  pub ends : (a : ℕ) → q.ends a ≡ p.ends a

@@ -1,10 +1,10 @@
--- The rule of lakes, on outputs alone. Assumes nothing.
+-- The rule of lakes, on outputs and on the states that these give. Assumes nothing.
 use Rattle.std.specs.Prelude.{◌≡◌, ℕ, suc, ◌+◌, ◌*◌, ◌/◌, ◌<◌, ◌≤◌, ◌⊎◌, List, length, ℤ, pos, negsuc, ◌+ℤ◌, neg_ℤ, ◌≤ℤ◌, slice_index_or, unsigned_abs}
 use Rattle.terms.specs.Sums.{sum_to}
 use Rattle.reader.specs.declared.numbers.LakeNumbers.{LakeNumbers}
 use Rattle.units.specs.Links.{model_of}
 use Rattle.units.specs.LakeUnits.{drawn, lake_links}
-use Rattle.units.specs.Agree.{OfKind}
+use Rattle.units.specs.Agree.{OfKind, SameStates}
 
 -- the rise that draws d lots; a draw tells its rise
 abbrev pub rise_of : ℕ → ℕ
@@ -60,4 +60,7 @@ abbrev pub LakeIn : LakeNumbers → List ℤ → ℕ → ℕ → Type 0
 LakeIn n qs t a = pos a ≡ level_before (pos n.was) qs t
 
 abbrev pub LakeRule : LakeNumbers → Type 0
-LakeRule n = OfKind (model_of (lake_links n)) (n.full + 1) (LakeObeys n) (LakeSoFar n) (LakeIn n) (lake_cost n) × OneToOne
+LakeRule n =
+    OfKind (model_of (lake_links n)) (n.full + 1) (LakeObeys n) (LakeSoFar n) (LakeIn n) (lake_cost n)
+    × ((l : ℕ) → SameStates (model_of (lake_links n)) (model_of (lake_links (record n { was = l }))))
+    × OneToOne

@@ -1,4 +1,4 @@
--- The rule of ramp units, on outputs alone. Assumes nothing.
+-- The rule of ramp units, on outputs and on the states that these give. Assumes nothing.
 use Rattle.std.specs.Prelude.{◌≡◌, ℕ, zero, suc, ◌+◌, ◌-◌, ◌*◌, ◌<◌, cond, List, ◌∷◌, length, ℤ, pos, ◌+ℤ◌, ◌-ℤ◌, ◌≤ℤ◌, slice_index_or, unsigned_abs}
 use Rattle.terms.specs.Sums.{sum_to}
 use Rattle.reader.specs.declared.numbers.RampNumbers.{RampNumbers}
@@ -6,7 +6,7 @@ use Rattle.units.specs.Fill.{fill}
 use Rattle.units.specs.Links.{model_of}
 use Rattle.units.specs.RampUnits.{ramp_links}
 use Rattle.units.specs.SteamRules.{runs}
-use Rattle.units.specs.Agree.{OfKind}
+use Rattle.units.specs.Agree.{OfKind, SameStates}
 
 -- 1 where it is on, 0 where it is off
 abbrev pub commitment : ℤ → ℕ
@@ -47,4 +47,6 @@ abbrev pub RampIn : RampNumbers → List ℤ → ℕ → ℕ → Type 0
 RampIn n qs t a = StateOf n (previous n qs t) a
 
 abbrev pub RampRule : RampNumbers → Type 0
-RampRule n = OfKind (model_of (ramp_links n)) (n.run.hi - n.run.lo + 2) (RampObeys n) (RampObeys n) (RampIn n) (ramp_cost n)
+RampRule n =
+    OfKind (model_of (ramp_links n)) (n.run.hi - n.run.lo + 2) (RampObeys n) (RampObeys n) (RampIn n) (ramp_cost n)
+    × ((a : ℕ) → SameStates (model_of (ramp_links n)) (model_of (ramp_links (record n { was = a }))))

@@ -1,13 +1,15 @@
--- The rule of steam units, on outputs alone. Assumes nothing.
+-- The rule of steam units, on outputs and on the states that these give. It takes nothing from the unit's own
+-- definitions but the unit itself. Assumes nothing.
 use Rattle.std.specs.Prelude.{◌≡◌, ℕ, zero, suc, ◌+◌, ◌-◌, ◌<◌, ◌≤◌, min, Bool, true, false, cond, not, ◌&&◌, List, length, ℤ, pos, ◌+ℤ◌, ◌≤ℤ◌, int_lt, nat_le, slice_index_or, unsigned_abs}
 use Rattle.terms.specs.Sums.{sum_to}
 use Rattle.reader.specs.declared.numbers.Rest.{Rest}
 use Rattle.reader.specs.declared.numbers.Was.{Was}
+use Rattle.reader.specs.declared.numbers.Was.TheVariants.{On, Off}
 use Rattle.reader.specs.declared.numbers.SteamNumbers.{SteamNumbers}
 use Rattle.units.specs.Fill.{fill}
-use Rattle.units.specs.SteamUnits.{was_on, was_for, steam_links}
+use Rattle.units.specs.SteamUnits.{steam_links}
 use Rattle.units.specs.Links.{model_of}
-use Rattle.units.specs.Agree.{OfKind}
+use Rattle.units.specs.Agree.{OfKind, SameStates}
 
 -- on means an output above 0
 abbrev pub runs : ℤ → Bool
@@ -15,7 +17,8 @@ runs q = int_lt (pos 0) q
 
 -- k + 1 periods before the day's first: as it was for so many periods, and the opposite before those
 abbrev pub before_day : Was → ℕ → Bool
-before_day w k = cond (nat_le (suc k) (was_for w)) (was_on w) (not (was_on w))
+before_day (On m) k = cond (nat_le (suc k) m) true false
+before_day (Off m) k = cond (nat_le (suc k) m) false true
 
 -- whether it was on k periods before period t, which may lie before the day
 abbrev pub status : (ℕ → Bool) → List ℤ → ℕ → ℕ → Bool
@@ -82,4 +85,6 @@ abbrev pub SteamIn : SteamNumbers → List ℤ → ℕ → ℕ → Type 0
 SteamIn n qs t a = StateAfter n.rest (history (before_day n.was) qs t) a
 
 abbrev pub SteamRule : SteamNumbers → Type 0
-SteamRule n = OfKind (model_of (steam_links n)) (n.rest.up + n.rest.cold) (SteamObeys n) (SteamObeys n) (SteamIn n) (steam_cost n)
+SteamRule n =
+    OfKind (model_of (steam_links n)) (n.rest.up + n.rest.cold) (SteamObeys n) (SteamObeys n) (SteamIn n) (steam_cost n)
+    × ((w : Was) → SameStates (model_of (steam_links n)) (model_of (steam_links (record n { was = w }))))

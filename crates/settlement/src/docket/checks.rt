@@ -1,5 +1,5 @@
 // Checks that several calls share.
-ghost use Rattle.settlement.specs.Stages.{place_of, AsksRows};
+ghost use Rattle.settlement.specs.Stages.{call_place, AsksRows};
 ghost use Rattle.settlement.specs.Calls.{UnitPrices, Accounted};
 
 use crate::counted::Counted;
@@ -12,7 +12,7 @@ impl<F: Fleet> Docket<F> {
     // The prices, for a call of a unit. Declined with 21, then 24.
     pub(crate) fn unit_prices(&self, call: Call) -> Result<PriceRow, Decline>
         requires { AsksRows call }
-        ensures { UnitPrices (F.Fleet.meaning self.now.fleet) self.now.sheet.stage (place_of call.entry) result }
+        ensures { UnitPrices (F.Fleet.meaning self.now.fleet) self.now.sheet.stage (call_place call.entry) result }
     {
         let rows = self.sheet.rows(self.periods, call)?;
         let unit = call.place();

@@ -1,7 +1,7 @@
 // The stage, which takes each call, and what stands of a unit.
 ghost use Rattle.std.specs.Prelude.{◌≡◌, ◌<◌, None, slice_index_or};
 ghost use Rattle.settlement.specs.Reasons.{KeptAtDecline};
-ghost use Rattle.settlement.specs.Stages.{place_of, AsksRows};
+ghost use Rattle.settlement.specs.Stages.{call_place, AsksRows};
 ghost use Rattle.settlement.specs.Sheets.{BlankSheet, CallEntered, SameSums, RowsAt};
 
 use crate::sheet::Sheet;
@@ -24,7 +24,7 @@ impl Sheet {
         }
     }
 
-    // A call that moves the stage: need and price. The sums stay.
+    // The stage takes a call and may move: at need and price, which enter a row. The sums stay.
     pub(crate) fn enter(&mut self, periods: Periods, call: Call) -> Result<(), Decline>
         ensures entered { CallEntered periods.count self.old.stage call.entry self.new.stage result }
         ensures sums { SameSums self.old self.new }
@@ -37,7 +37,7 @@ impl Sheet {
     // The rows, for a call that asks for them: taken on a copy of the stage, which none of these calls moves.
     pub(crate) fn rows(&self, periods: Periods, call: Call) -> Result<Rows, Decline>
         requires { AsksRows call }
-        ensures { RowsAt self.now.stage (place_of call.entry) result }
+        ensures { RowsAt self.now.stage (call_place call.entry) result }
     {
         let mut stage = self.stage;
         let Some(rows) = stage.take(periods, call)? else {

@@ -4,7 +4,8 @@ use Rattle.std.proofs.lemmas.Bool.{lt-ltb}
 use Rattle.fleet.specs.declared.records.Range.{Range}
 use Rattle.fleet.specs.Units.{holds}
 use Rattle.units.specs.Links.{Links, link_arc, model_of}
-use Rattle.units.specs.Agree.{Agrees, open_ended, OfKind}
+use Rattle.fleet.specs.Units.{UnitModel}
+use Rattle.units.specs.Agree.{Agrees, open_ended, OfKind, SameStates}
 
 and_sure : (b c : Bool) → c ≡ true → (b && c) ≡ b
 and_sure true c e = e
@@ -20,11 +21,11 @@ module _ (l : Links) where
 
   pub of_kind : (R S : List ℤ → Type 0) (I : List ℤ → ℕ → ℕ → Type 0) (f : List ℤ → ℤ) → Agrees (model_of l) R I f → Agrees (open_ended (model_of l)) S I f → OfKind (model_of l) l.states R S I f
   of_kind R S I f a b = record {
-    states = refl;
+    number_is = refl;
     schedules = a;
     so_far = b;
-    arcs = arcs_alike;
-    costs = λ t a b q i. ap (λ (o : Option Range). cond (holds o q) (l.charge a b q) (pos 0)) (arcs_alike t a b i);
+    same_arcs = arcs_alike;
+    same_costs = λ t a b q i. ap (λ (o : Option Range). cond (holds o q) (l.charge a b q) (pos 0)) (arcs_alike t a b i);
   }
 
   pub of_open_kind : (R : List ℤ → Type 0) (I : List ℤ → ℕ → ℕ → Type 0) (f : List ℤ → ℤ) → ((a : ℕ) → l.ends a ≡ true) → Agrees (model_of l) R I f → OfKind (model_of l) l.states R R I f
