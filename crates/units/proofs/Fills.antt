@@ -1,13 +1,14 @@
 -- Lots by steps cost the prices of the first lots, and not too much. Assumes nothing.
-use Rattle.std.proofs.Common.{◌≡◌, ℕ, zero, suc, ◌+◌, ◌-◌, ◌*◌, ◌<◌, ◌≤◌, min, true, List, [], ◌∷◌, ◌++◌, length, take, drop, replicate, ℤ, pos, ◌+ℤ◌, ◌*ℤ◌, ◌==◌, slice_index_or, refl, sym, ap, subst, ◌∙◌, inl, inr, le_of_suc-le-suc, add-one, arith, drop_of_length-le, drop-cons, w32, SFits}
+use Rattle.std.proofs.Common.{◌≡◌, ℕ, zero, suc, ◌+◌, ◌-◌, ◌*◌, ◌<◌, ◌≤◌, min, true, List, [], ◌∷◌, ◌++◌, length, take, drop, replicate, ℤ, pos, ◌+ℤ◌, ◌*ℤ◌, ◌==◌, slice_index_or, refl, sym, ap, subst, ◌∙◌, inl, inr, le_of_suc-le-suc, add-one, arith, drop_of_length-le, drop-cons, length-append, w32, SFits}
 use Rattle.std.proofs.Math.IntN.{*ℤ-zero, *ℤ_comm, suc_ℤ-*ℤ}
 use Rattle.std.proofs.lemmas.Int.{ints}
+use Rattle.std.proofs.lemmas.List.{length-replicate}
 use Rattle.std.proofs.lemmas.Bool.{cases_Bool, and_parts, cond-true, cond-false}
 use Rattle.std.specs.List.{list_all}
 use Rattle.terms.specs.Numbers.{Near}
 use Rattle.terms.proofs.Bounds.{near_mul, near_pos, near_add, near_more, near_test, fits_32}
 use Rattle.reader.specs.declared.steps.Step.{Step}
-use Rattle.reader.specs.Steps.{fair_step, fair_rest, fair_places, unused}
+use Rattle.reader.specs.Steps.{fair_step, fair_rest, fair_places, unused, lots_in}
 use Rattle.units.specs.Fill.{fill, prices_in_order, total, FilledInOrder}
 
 -- in order --
@@ -42,12 +43,22 @@ none_left : (q : ℕ) → pos 0 ≡ total (take q [])
 none_left zero = refl
 none_left (suc q) = refl
 
-pub filled : FilledInOrder
-filled [] q = none_left q
-filled (s ∷ ss) q =
-    let r = filled ss (q - s.lots) in
+first_filled : (ss : List Step) (q : ℕ) → fill ss q ≡ total (take q (prices_in_order ss))
+first_filled [] q = none_left q
+first_filled (s ∷ ss) q =
+    let r = first_filled ss (q - s.lots) in
     let f = first_lots s.price (prices_in_order ss) s.lots q in
     omega (arith, ints)
+
+all_priced : (ss : List Step) → length (prices_in_order ss) ≡ lots_in ss
+all_priced [] = refl
+all_priced (s ∷ ss) =
+    length-append (replicate s.lots s.price) (prices_in_order ss)
+    ∙ ap (λ n. n + length (prices_in_order ss)) (length-replicate s.lots s.price)
+    ∙ ap (λ n. s.lots + n) (all_priced ss)
+
+pub filled : FilledInOrder
+filled = record { all = all_priced; first = first_filled }
 
 -- bounds --
 
