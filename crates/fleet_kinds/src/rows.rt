@@ -72,11 +72,12 @@ impl ArcRow {
         self.does_exist(units) && self.has_range() && self.has_bounds()
     }
 
-    // Whether the row is heeded for the arc, where there are so many units.
+    // Whether the row is heeded for the arc, where there are so many units. The arc comes first: most rows of a table are
+    // about another.
     pub(crate) fn is_for(&self, units: usize, key: ArcKey) -> bool
         ensures { result ≡ is_for units key.unit key.period key.from key.to self.now }
     {
-        self.is_heeded(units) && self.key() == key
+        self.key() == key && self.is_heeded(units)
     }
 
     // base + rate × output, 0 for an output that is not the arc's.
