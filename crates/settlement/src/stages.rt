@@ -60,7 +60,9 @@ impl<'a> Call<'a> {
 
 impl Stage {
     // Each stage takes only its own calls: need at blank and price at needed enter their row and move it, the others are
-    // given the rows at priced. Declined with 21 at the call's place, then as the row is.
+    // given the rows at priced. Declined with 21 at the call's place, then as the row is. Inlined, so
+    // that asking for the rows copies no stage.
+    #[inline(always)]
     pub(crate) fn take(&mut self, periods: Periods, call: Call) -> Result<Option<Rows>, Decline>
         ensures { StageTakes periods.count self.old call.entry self.new result }
     {

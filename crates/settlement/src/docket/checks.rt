@@ -10,6 +10,7 @@ use terms::{Cause, Decline, Entry};
 
 impl<F: Fleet> Docket<F> {
     // The prices, for a call of a unit. Declined with 21, then 24.
+    #[inline(always)]
     pub(crate) fn unit_prices(&self, call: Call) -> Result<PriceRow, Decline>
         requires { AsksRows call }
         ensures { UnitPrices (F.Fleet.meaning self.now.fleet) self.now.sheet.stage (call_place call.entry) result }

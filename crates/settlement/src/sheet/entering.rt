@@ -35,6 +35,7 @@ impl Sheet {
     }
 
     // The rows, for a call that asks for them: taken on a copy of the stage, which none of these calls moves.
+    #[inline(always)]
     pub(crate) fn rows(&self, periods: Periods, call: Call) -> Result<Rows, Decline>
         requires { AsksRows call }
         ensures { RowsAt self.now.stage (call_place call.entry) result }
